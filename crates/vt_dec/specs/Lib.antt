@@ -1,0 +1,5 @@
+pub mod Decisions
+pub mod Words
+pub mod Sides
+pub mod Contexts
+pub mod Inverse

@@ -1,0 +1,64 @@
+ghost use Rattle.std.specs.Prelude.{◌≡◌, None, OnOk};
+ghost use Rattle.std.specs.Io.KnownBytes.{Appends};
+
+use crate::{Sink, SinkFailed};
+use std::io;
+use std::io::{Print, Write};
+use std::marker::Model;
+
+/// Standard output. It tells nothing of what was written.
+#[derive(Drop)]
+pub struct HostSink<'a, R> {
+    runtime: &'a R,
+    faults: u64,
+}
+
+impl<'a, R> Model for HostSink<'a, R> {
+    ghost use Rattle.std.specs.Prelude.{ℕ};
+
+    ghost Value = { ℕ };
+
+    ghost view = { λ s. s.faults };
+}
+
+impl<'a, R: Print> HostSink<'a, R> {
+    /// A sink that has not failed yet.
+    pub fn new(runtime: &'a R) -> HostSink<'a, R>
+        ensures { result ≡ 0 }
+    {
+        HostSink { runtime, faults: 0 }
+    }
+}
+
+impl<'a, R: Print> Sink for HostSink<'a, R> {
+    ghost written = { λ _. None };
+
+    ghost faults = { λ count. count };
+
+    ghost puts = { λ _. None };
+
+    ghost sure = { λ _. None };
+
+    fn put(&mut self, bytes: &[u8]) -> Result<(), SinkFailed> {
+        let written = write_whole(&mut io::writer(self.runtime), bytes);
+        if written.is_err() {
+            self.faults = self.faults.saturating_add(1);
+        }
+        written
+    }
+}
+
+// Writes all the bytes, or fails at the first error. A write that takes nothing would be asked
+// again for ever, so it is an error too.
+fn write_whole<W: Write>(writer: &mut W, bytes: &[u8]) -> Result<(), SinkFailed>
+    ensures { OnOk result (Appends (W.contents writer.old) (W.contents writer.new) bytes.now) }
+{
+    let mut left = bytes;
+    while !left.is_empty() {
+        match writer.write(left) {
+            Ok(0) | Err(_) => return Err(SinkFailed),
+            Ok(count) => left = &left[count..],
+        }
+    }
+    Ok(())
+}

@@ -1,0 +1,56 @@
+use Rattle.std.proofs.Common.{◌≡◌, ℕ, ◌+◌, ◌<◌, ◌≤◌, ◌⊎◌, inl, inr, List, ◌∷◌, length, replicate, Option, Some, None, IfSome, arith, refl, sym, subst}
+use Rattle.std.proofs.lemmas.List.{length-replicate}
+use Rattle.vt_io.specs.Counts.{Rose}
+use Rattle.vt_io.specs.Written.{Grows, GrowsByFront}
+use Rattle.vt_top.specs.declared.status.Status.{Status}
+use Rattle.vt_top.specs.declared.status.Status.TheVariants.{Done, Untyped, Usage, Refused, ReadFault, WriteFault, NoMemory}
+use Rattle.vt_top.specs.declared.refusal.Refusal.{Refusal}
+use Rattle.vt_top.specs.Lines.{refusal_line}
+use Rattle.vt_top.specs.Words.{Command, TypeOf, command_of}
+use Rattle.vt_top.specs.Answers.{Holds, IsRefused, FileAnswer, Out, Call, Prepares, Answers, IsWritten}
+
+no_read_fault : (command : Option Command) (held : List ℕ → Option (List ℕ)) (text : List ℕ) → Out command held ReadFault text → ⊥
+no_read_fault None held text out = let e = out.0 in cc
+no_read_fault (Some (TypeOf file)) held text out = out.2
+
+no_write_fault : (command : Option Command) (held : List ℕ → Option (List ℕ)) (text : List ℕ) → Out command held WriteFault text → ⊥
+no_write_fault None held text out = let e = out.0 in cc
+no_write_fault (Some (TypeOf file)) held text out = out.2
+
+no_want : (command : Option Command) (held : List ℕ → Option (List ℕ)) (text : List ℕ) → Out command held NoMemory text → ⊥
+no_want None held text out = let e = out.0 in cc
+no_want (Some (TypeOf file)) held text out = out.2
+
+-- A defined answer is one that is handed to the sink.
+pub out_prepares : (call : Call) (status : Status) (text : List ℕ) → Out (command_of call.words) call.held status text → Prepares call status text
+out_prepares call Done text out = out
+out_prepares call Untyped text out = out
+out_prepares call Usage text out = out
+out_prepares call Refused text out = out
+out_prepares call ReadFault text out = absurd (no_read_fault (command_of call.words) call.held text out)
+out_prepares call WriteFault text out = no_write_fault (command_of call.words) call.held text out
+out_prepares call NoMemory text out = absurd (no_want (command_of call.words) call.held text out)
+
+-- A text that was written whole is the answer of its status.
+whole_answers : (call : Call) (status : Status) (text : List ℕ) → Prepares call status text → Grows call.written call.written_after text → Answers call status
+whole_answers call Done text p grew = (text, p, grew)
+whole_answers call Untyped text p grew = (text, p, grew)
+whole_answers call Usage text p grew = (text, p, grew)
+whole_answers call Refused text p grew = (text, p, grew)
+whole_answers call ReadFault text p grew = (text, p, grew)
+whole_answers call WriteFault text p grew = absurd p
+whole_answers call NoMemory text p grew = (text, p, grew)
+
+-- What was handed to the sink is answered, however the put ended.
+pub written_answers : (call : Call) (status : Status) (text : List ℕ) (ended : Status) → Prepares call status text → IsWritten call.write_faults call.write_faults_after call.written call.written_after status text ended → Answers call ended
+written_answers call status text ended p (inl w) = subst (Answers call) (sym w.0) (whole_answers call status text p w.1)
+written_answers call status text ended p (inr w) = subst (Answers call) (sym w.0) (w.1, status, text, p, w.2)
+
+-- Bytes that are told to be too many, or any that are, where nothing is told.
+pub too_long_bytes : (held : Option (List ℕ)) (limit : ℕ) → IfSome held (λ all. limit < length all) → (bytes : List ℕ) × Holds held bytes × (limit < length bytes)
+too_long_bytes (Some all) limit h = (all, refl, h)
+too_long_bytes None limit h = (replicate (limit + 1) 0, tt, simp length-replicate (omega arith))
+
+-- A refusal's line, with its status, is the answer of a file that it refuses.
+pub refused_answer : (bytes : List ℕ) (refusal : Refusal) (status : Status) (text : List ℕ) → IsRefused bytes refusal → (status ≡ Refused) × (text ≡ refusal_line refusal) → FileAnswer bytes status text
+refused_answer bytes refusal status text refused is = subst (λ s. FileAnswer bytes s text) (sym is.0) (refusal, refused, is.1)

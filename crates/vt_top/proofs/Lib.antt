@@ -1,0 +1,6 @@
+pub mod Numbers
+pub mod AnswerLaws
+pub mod NormalLaws
+pub mod ReadingWords
+pub mod ReadingLiterals
+pub mod ReadingLaws

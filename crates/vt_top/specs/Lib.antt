@@ -1,0 +1,9 @@
+pub mod Status
+pub mod Lines
+pub mod Words
+pub mod Spelling
+pub mod Meaning
+pub mod Reading
+pub mod Faults
+pub mod Normal
+pub mod Answers

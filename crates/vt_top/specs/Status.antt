@@ -1,0 +1,13 @@
+use Rattle.std.specs.Prelude.{ℕ}
+use Rattle.vt_top.specs.declared.status.Status.{Status}
+use Rattle.vt_top.specs.declared.status.Status.TheVariants.{Done, Untyped, Usage, Refused, ReadFault, WriteFault, NoMemory}
+
+-- the number of each status
+abbrev pub status_number : Status → ℕ
+status_number Done = 0
+status_number Untyped = 1
+status_number Usage = 2
+status_number Refused = 3
+status_number ReadFault = 4
+status_number WriteFault = 5
+status_number NoMemory = 6

@@ -1,0 +1,8 @@
+/// Why a file is refused.
+#[derive(Clone, Copy, Debug, PartialEq, Eq)]
+pub enum Refusal {
+    /// It has more than 262,144 bytes.
+    TooLong,
+    /// It is no program that is read so far.
+    NotYet,
+}

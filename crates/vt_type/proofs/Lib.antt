@@ -1,0 +1,10 @@
+pub mod Makers
+pub mod Selecting
+pub mod Sizes
+pub mod HasErrors
+pub mod Naming
+pub mod Firsts
+pub mod Substituting
+pub mod Renaming
+pub mod ConstantTable
+pub mod PartsFit

@@ -1,0 +1,10 @@
+pub mod Plain
+pub mod Canonical
+pub mod Variational
+pub mod NormalForm
+pub mod Text
+pub mod Names
+pub mod Parts
+pub mod Laws
+pub mod Constants
+pub mod Entries

@@ -1,0 +1,75 @@
+//! The canonical form of a type, in which a variable is named by the path of its first occurrence.
+ghost use Rattle.std.specs.Prelude.{◌≡◌, ℕ, ◌+◌, ◌<◌, List, ◌++◌, IfOk, OnOk};
+ghost use Rattle.vt_type.specs.Plain.{IsWellFormed, AreWellFormed, kid_count, substituted, kids_substituted};
+ghost use Rattle.vt_type.specs.Canonical.{canonical, occurrences, kids_occurrences, FindsAs, first_of};
+
+use crate::places::Places;
+use crate::{Plain, PlainKids};
+use std::alloc::{AllocError, Global};
+
+/// The canonical form of a type: two types are equal up to the names of variables exactly where
+/// their canonical forms are equal.
+pub fn canon(alloc: Global, plain: &Plain) -> Result<Plain, AllocError>
+    requires { IsWellFormed plain.now }
+    ensures canonical { IfOk result (λ t. t ≡ canonical plain.now) }
+    ensures well_formed { IfOk result IsWellFormed }
+{
+    let mut way = Vec::new(alloc);
+    let mut places = Places::new(alloc);
+    renamed(plain, alloc, &mut way, &mut places)
+}
+
+// The type at `way`, with each variable named by where it was met first.
+#[cycle(canonical)]
+fn renamed(
+    plain: &Plain,
+    alloc: Global,
+    way: &mut Vec<u8>,
+    places: &mut Places,
+) -> Result<Plain, AllocError>
+    requires { IsWellFormed plain.now }
+    ensures way { OnOk result (way.new.items ≡ way.old.items) }
+    ensures met { OnOk result (FindsAs places.new (places.old ++ occurrences way.old.items plain.now)) }
+    ensures renamed { IfOk result (λ t. (later : List (List ℕ × List ℕ)) → t ≡ substituted (first_of (places.old ++ (occurrences way.old.items plain.now ++ later))) plain.now) }
+{
+    match plain {
+        Plain::Var(name) => {
+            let first = places.meet(alloc, name.as_slice(), way.as_slice())?;
+            Ok(Plain::Var(first))
+        }
+        Plain::Con(head, kids) => {
+            let head = *head;
+            // Its arity is what bounds the numbers of its children.
+            let _arity = head.arity();
+            let kids = renamed_kids(kids, alloc, 0, way, places)?;
+            Ok(Plain::Con(head, kids))
+        }
+    }
+}
+
+// The children at `way`, of which the first has this number.
+#[cycle(canonical)]
+fn renamed_kids(
+    kids: &PlainKids,
+    alloc: Global,
+    number: u8,
+    way: &mut Vec<u8>,
+    places: &mut Places,
+) -> Result<PlainKids, AllocError>
+    requires well_formed { AreWellFormed kids.now }
+    requires numbers { number + kid_count kids.now < 256 }
+    ensures way { OnOk result (way.new.items ≡ way.old.items) }
+    ensures met { OnOk result (FindsAs places.new (places.old ++ kids_occurrences way.old.items number kids.now)) }
+    ensures renamed { IfOk result (λ ts. (later : List (List ℕ × List ℕ)) → ts ≡ kids_substituted (first_of (places.old ++ (kids_occurrences way.old.items number kids.now ++ later))) kids.now) }
+{
+    match kids {
+        PlainKids::Nil => Ok(PlainKids::Nil),
+        PlainKids::More(first, others) => {
+            way.push(number)?;
+            let first = renamed(first.get(), alloc, way, places)?;
+            way.pop();
+            let others = renamed_kids(others.get(), alloc, number + 1, way, places)?;
+            PlainKids::more(alloc, first, others)
+        }
+    }
+}

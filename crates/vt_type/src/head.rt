@@ -1,0 +1,34 @@
+ghost use Rattle.std.specs.Prelude.{◌≡◌, ◌<◌};
+ghost use Rattle.vt_type.specs.Plain.{arity};
+
+/// The constructor of a type.
+#[derive(Clone, Copy, Debug, PartialEq, Eq)]
+pub enum Head {
+    Int,
+    Bool,
+    /// The type of strings, printed `String`.
+    Text,
+    List,
+    Pair,
+    Fun,
+    /// A declared type, by its number in the order of declaration, with as many parameters as `arity`.
+    Data { number: u32, arity: u8 },
+}
+
+impl Head {
+    /// How many children the head has.
+    pub fn arity(self) -> u8
+        ensures arity { result ≡ arity self }
+        ensures fits { arity self < 256 }
+    {
+        match self {
+            Head::Int => 0,
+            Head::Bool => 0,
+            Head::Text => 0,
+            Head::List => 1,
+            Head::Pair => 2,
+            Head::Fun => 2,
+            Head::Data { arity, .. } => arity,
+        }
+    }
+}

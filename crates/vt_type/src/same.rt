@@ -1,0 +1,47 @@
+//! Whether two types are the same, names of variables included.
+ghost use Rattle.std.specs.Prelude.{◌≡◌, ◌↔◌, IsTrue};
+
+use crate::{Head, Plain, PlainKids};
+
+impl Head {
+    pub fn is(self, other: Head) -> bool
+        ensures { IsTrue result ↔ (self ≡ other) }
+    {
+        self == other
+    }
+}
+
+impl Plain {
+    /// Whether the types are equal, names of variables included.
+    #[cycle(same)]
+    pub fn is(&self, other: &Plain) -> bool
+        ensures { IsTrue result ↔ (self.now ≡ other.now) }
+    {
+        match self {
+            Plain::Var(name) => match other {
+                Plain::Var(own) => name.as_slice() == own.as_slice(),
+                Plain::Con(_, _) => false,
+            },
+            Plain::Con(head, kids) => match other {
+                Plain::Var(_) => false,
+                Plain::Con(own, others) => head.is(*own) && are(kids, others),
+            },
+        }
+    }
+}
+
+#[cycle(same)]
+fn are(kids: &PlainKids, others: &PlainKids) -> bool
+    ensures { IsTrue result ↔ (kids.now ≡ others.now) }
+{
+    match kids {
+        PlainKids::Nil => match others {
+            PlainKids::Nil => true,
+            PlainKids::More(_, _) => false,
+        },
+        PlainKids::More(first, rest) => match others {
+            PlainKids::Nil => false,
+            PlainKids::More(own, more) => first.get().is(own.get()) && are(rest.get(), more.get()),
+        },
+    }
+}
