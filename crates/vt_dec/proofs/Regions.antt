@@ -1,5 +1,5 @@
 use Rattle.std.proofs.Common.{◌≡◌, ℕ, ◌<◌, ◌≤◌, ◌↔◌, ◌≢◌, List, Option, Some, None, length, set, slice_get, refl, ap, sym, ◌∙◌, arith}
-use Rattle.std.proofs.lemmas.Option.{slice_get-get_or, same_Some}
+use Rattle.std.proofs.lemmas.Option.{slice_get-get_or}
 use lib.Lanes.{zip2}
 use Rattle.vt_dec.specs.declared.side.Side.{Side}
 use Rattle.vt_dec.specs.declared.side.Side.TheVariants.{Left, Right}
@@ -113,12 +113,6 @@ Narrows-same_least region dim side ones others a b same narrows = record {
     λ both. Admits-same_least region.space ones others decision a same ((narrows.exactly decision).1 both),
   );
 }
-
-pub Narrows-itself : (region : Region) (dim : ℕ) (side : Side) → MustTake region dim side → Narrows region dim side region
-Narrows-itself region dim side must = record { space = refl; exactly = λ decision. (λ admits. (admits, must decision admits), λ both. both.0) }
-
-pub no_CanTake : (region : Region) (dim : ℕ) (own side : Side) → MustTake region dim own → own ≢ side → CanTake region dim side → ⊥
-no_CanTake region dim own side must other can = other (same_Some own side (sym (must can.0 can.1) ∙ can.2))
 
 -- ---- two regions
 

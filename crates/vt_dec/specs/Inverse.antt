@@ -52,8 +52,9 @@ is_some-kept (decides ∷ decided) [] long = absurd (omega arith)
 is_some-kept (true ∷ decided) (side ∷ least) long = ap (λ rest. true ∷ rest) (is_some-kept decided least (omega arith))
 is_some-kept (false ∷ decided) (side ∷ least) long = ap (λ rest. false ∷ rest) (is_some-kept decided least (omega arith))
 
-pub decided_back : (n : ℕ) (decided : List Bool) (least : List Side) (left : ℕ) (space : Space) → IsHeld n decided least left space → map is_some (kept decided least) ≡ decided
-decided_back n decided least left space held = is_some-kept decided least (held.parts.long ∙ sym held.parts.full)
+module _ {n : ℕ} {decided : List Bool} {least : List Side} {left : ℕ} {space : Space} (held : IsHeld n decided least left space) where
+  pub decided_back : map is_some (kept decided least) ≡ decided
+  decided_back = is_some-kept decided least (held.parts.long ∙ sym held.parts.full)
 
-pub count_back : (n : ℕ) (decided : List Bool) (least : List Side) (left : ℕ) (space : Space) → IsHeld n decided least left space → budget_of space - rights (least_of (kept decided least)) ≡ left
-count_back n decided least left space held = ap (λ sides. budget_of space - rights sides) held.parts.only ∙ sym held.count
+  pub left_back : budget_of space - rights (least_of (kept decided least)) ≡ left
+  left_back = ap (λ sides. budget_of space - rights sides) held.parts.only ∙ sym held.count

@@ -8,8 +8,8 @@ use std::marker::Model;
 
 /// A part of a space: its decisions that agree with what is decided. It always has one.
 ///
-/// Copying it is a plain copy. `with` and `side` look at one word or at each word once, whatever the
-/// number of dimensions.
+/// Copying it is a plain copy. `with`, `side` and `next_decided` look at one word or at each word
+/// once, whatever the number of dimensions.
 #[derive(Clone, Copy, Debug)]
 pub struct Context<const N: usize> {
     /// The dimensions that the context decides itself.
@@ -25,7 +25,7 @@ impl<const N: usize> Model for Context<N> {
     ghost use Rattle.std.specs.Prelude.{◌-◌, ◌*◌, map, is_some};
     ghost use Rattle.vt_dec.specs.Decisions.{Region, rights};
     ghost use Rattle.vt_dec.specs.Contexts.{kept, least_of, budget_of, IsHeld};
-    ghost use Rattle.vt_dec.specs.Inverse.{decided_back, count_back};
+    ghost use Rattle.vt_dec.specs.Inverse.{decided_back, left_back};
 
     ghost Value = { Region };
 
@@ -33,9 +33,19 @@ impl<const N: usize> Model for Context<N> {
 
     ghost invariant = { λ c. IsHeld (64 * N) c.decided c.least c.left c.space };
 
-    ghost inverse = { λ r. record { decided = map is_some r.sides; least = least_of r.sides; left = budget_of r.space - rights (least_of r.sides); space = r.space } };
+    ghost inverse = { λ r. record {
+      decided = map is_some r.sides;
+      least = least_of r.sides;
+      left = budget_of r.space - rights (least_of r.sides);
+      space = r.space;
+    } };
 
-    ghost inverse_ok = { λ c held. λ i. record { decided = decided_back (64 * N) c.decided c.least c.left c.space held i; least = held.parts.only i; left = count_back (64 * N) c.decided c.least c.left c.space held i; space = c.space } };
+    ghost inverse_ok = { λ c held. λ i. record {
+      decided = decided_back held i;
+      least = held.parts.only i;
+      left = left_back held i;
+      space = c.space;
+    } };
 }
 
 impl<const N: usize> Context<N> {
@@ -146,7 +156,8 @@ impl<const N: usize> Context<N> {
     /// Some decision is admitted by both. Their spaces may differ.
     pub fn meets(&self, other: &Context<N>) -> bool
         ensures meets { IsTrue result ↔ Meet self.now other.now }
-        ensures kept { IsKept self.now × IsKept other.now }
+        ensures kept { IsKept self.now }
+        ensures other_kept { IsKept other.now }
     {
         let joined = self.least.join(&other.least);
         self.admits(&joined) && other.admits(&joined)

@@ -5,21 +5,6 @@ pub enum Side {
     Right,
 }
 
-impl Space {
-    ghost use Rattle.std.specs.Prelude.{◌≡◌};
-    ghost use Rattle.vt_dec.specs.Contexts.{budget_of};
-
-    /// How many dimensions may be `Right`, where there is a bound.
-    pub(crate) fn budget(self) -> u32
-        ensures { result ≡ budget_of self }
-    {
-        match self {
-            Space::All => 0,
-            Space::AtMost(budget) => budget,
-        }
-    }
-}
-
 impl Side {
     ghost use Rattle.std.specs.Prelude.{◌≡◌, [], ◌∷◌};
     ghost use Rattle.vt_dec.specs.Decisions.{rights};
@@ -40,4 +25,19 @@ impl Side {
 pub enum Space {
     All,
     AtMost(u32),
+}
+
+impl Space {
+    ghost use Rattle.std.specs.Prelude.{◌≡◌};
+    ghost use Rattle.vt_dec.specs.Contexts.{budget_of};
+
+    /// How many dimensions may be `Right`, where there is a bound.
+    pub(crate) fn budget(self) -> u32
+        ensures { result ≡ budget_of self }
+    {
+        match self {
+            Space::All => 0,
+            Space::AtMost(budget) => budget,
+        }
+    }
 }

@@ -1,13 +1,14 @@
 ghost use Rattle.std.specs.Prelude.{IfOk};
 ghost use Rattle.vt_type.specs.Plain.{IsWellFormed};
+ghost use Rattle.vt_type.specs.Variational.{IsWellFormedV};
 
 use crate::{
-    ChangeLine, ConstId, Constants, Head, Names, Path, Plain, PlainKids, Tables, VKids, VType,
-    canon, instance_of,
+    ChangeLine, ConstId, Constants, Head, Names, Path, Plain, PlainKids, Selected, Tables, VKids,
+    VType, canon, instance_of,
 };
 use std::alloc::{AllocError, Global};
 use std::test::Fail;
-use vt_dec::Dim;
+use vt_dec::{Decision, Dim, Side};
 
 fn variable(alloc: Global, step: u8) -> Result<Plain, AllocError>
     ensures { IfOk result IsWellFormed }
@@ -191,5 +192,49 @@ fn records_are_made(rt: HostRuntime) -> Result<(), Fail> {
     assert!(rt; !line.wanted.is(&line.result));
     crate::laws::same_up_to_renaming();
     crate::laws::canonical_again();
+    Ok(())
+}
+
+// The type `'a -> @A{'a, Int}`, with A as dimension 0.
+fn function_to_a_choice(alloc: Global) -> Result<VType, AllocError>
+    ensures { IfOk result IsWellFormedV }
+{
+    let from = VType::Var(path(alloc, 0)?);
+    let same = VType::Var(path(alloc, 0)?);
+    let int = VType::Con(Head::Int, VKids::Nil);
+    let to = VType::choice(alloc, Dim(0), same, int)?;
+    let kids = VKids::more(alloc, to, VKids::Nil)?;
+    let kids = VKids::more(alloc, from, kids)?;
+    Ok(VType::Con(Head::Fun, kids))
+}
+
+fn path(alloc: Global, step: u8) -> Result<Path, AllocError> {
+    Ok(Path::new(Vec::from_slice(alloc, &[step])?))
+}
+
+fn int_or_error(alloc: Global) -> Result<VType, AllocError>
+    ensures { IfOk result IsWellFormedV }
+{
+    let int = VType::Con(Head::Int, VKids::Nil);
+    VType::choice(alloc, Dim(0), int, VType::Err)
+}
+
+#[test]
+fn a_type_is_selected(rt: HostRuntime) -> Result<(), Fail> {
+    let alloc = rt.alloc();
+    let mut decision = Decision::<1>::all_left();
+    decision.set(Dim(0), Side::Right);
+
+    let want = Plain::fun(alloc, variable(alloc, 0)?, Plain::int())?;
+    let vtype = function_to_a_choice(alloc)?;
+    match vtype.select(alloc, &decision)? {
+        Selected::Found(plain) => assert!(rt; plain.is(&want)),
+        Selected::Untyped => assert!(rt; false, "it has a type"),
+    }
+    assert!(rt; matches!(vtype.at(&decision), VType::Con(_, _)));
+
+    let vtype = int_or_error(alloc)?;
+    assert!(rt; matches!(vtype.select(alloc, &decision)?, Selected::Untyped));
+    assert!(rt; matches!(vtype.at(&decision), VType::Err));
     Ok(())
 }
