@@ -168,7 +168,8 @@ impl<const N: usize> Context<N> {
         ensures least { IsLeast self.now result }
         ensures kept { IsKept self.now }
     {
-        self.least
+        let Context { least, .. } = self;
+        *least
     }
 
     /// The first dimension from `from` on that the context decides itself, with its side.

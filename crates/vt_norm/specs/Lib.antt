@@ -1,0 +1,4 @@
+pub mod Parts
+pub mod Diagrams
+pub mod Normalizing
+pub mod Laws
