@@ -5,9 +5,12 @@ use Rattle.vt_io.specs.Written.{Grows, GrowsByFront}
 use Rattle.vt_top.specs.declared.status.Status.{Status}
 use Rattle.vt_top.specs.declared.status.Status.TheVariants.{Done, Untyped, Usage, Refused, ReadFault, WriteFault, NoMemory}
 use Rattle.vt_top.specs.declared.refusal.Refusal.{Refusal}
+use Rattle.vt_top.specs.declared.refusal.Refusal.TheVariants.{TooBig}
+use Rattle.vt_top.specs.Spelling.{Program, Spells}
+use Rattle.vt_top.specs.Normal.{ProgramAnswer}
 use Rattle.vt_top.specs.Lines.{refusal_line}
 use Rattle.vt_top.specs.Words.{Command, TypeOf, command_of}
-use Rattle.vt_top.specs.Answers.{Holds, IsRefused, FileAnswer, Out, Call, Prepares, Answers, IsWritten}
+use Rattle.vt_top.specs.Answers.{Holds, IsRefused, IsTyped, FileAnswer, Out, Call, Prepares, Answers, IsWritten}
 
 no_read_fault : (command : Option Command) (held : List ℕ → Option (List ℕ)) (text : List ℕ) → Out command held ReadFault text → ⊥
 no_read_fault None held text out = let e = out.0 in cc
@@ -54,3 +57,14 @@ too_long_bytes None limit h = (replicate (limit + 1) 0, tt, simp length-replicat
 -- A refusal's line, with its status, is the answer of a file that it refuses.
 pub refused_answer : (bytes : List ℕ) (refusal : Refusal) (status : Status) (text : List ℕ) → IsRefused bytes refusal → (status ≡ Refused) × (text ≡ refusal_line refusal) → FileAnswer bytes status text
 refused_answer bytes refusal status text refused is = subst (λ s. FileAnswer bytes s text) (sym is.0) (refusal, refused, is.1)
+
+-- The answer of the program that a file spells is that of the file.
+pub program_answers : (bytes : List ℕ) (program : Program) (status : Status) (text : List ℕ) → length bytes ≤ 262144 → Spells bytes program → ProgramAnswer program status text → FileAnswer bytes status text
+program_answers bytes program status text within spelled (inl (type, normal, small, printed)) =
+    let typed : IsTyped bytes type text = record { program = program; within = within; spelled = spelled; normal = normal; small = small; shown = printed.0 } in
+    elim (printed.1) [
+      | inl done ↦ subst (λ s. FileAnswer bytes s text) (sym done.0) (type, typed, done.1)
+      | inr untyped ↦ subst (λ s. FileAnswer bytes s text) (sym untyped.0) (type, typed, untyped.1)
+    ]
+program_answers bytes program status text within spelled (inr (type, normal, large, refused, line)) =
+    refused_answer bytes TooBig status text (program, type, within, spelled, normal, large) (refused, line)

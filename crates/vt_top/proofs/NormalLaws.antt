@@ -1,16 +1,27 @@
-use Rattle.std.proofs.Common.{◌≡◌, ◌≢◌, ℕ, Bool, true, false, List, replicate, Option, Some, None, ◌⊎◌, inl, inr, refl, sym, ap, ◌∙◌, slice_get, slice_set, arith}
+use Rattle.std.proofs.Common.{◌≡◌, ◌≢◌, ℕ, Bool, true, false, List, replicate, Option, Some, None, refl, sym, ap, ◌∙◌, slice_get, slice_set, length, subst, arith, lit<}
 use Rattle.vt_dec.specs.declared.side.Side.{Side}
 use Rattle.vt_dec.specs.declared.side.Side.TheVariants.{Left, Right}
 use Rattle.vt_type.specs.declared.head.Head.{Head}
 use Rattle.vt_type.specs.declared.head.Head.TheVariants as head
 use Rattle.vt_type.specs.Canonical.{canonical}
-use Rattle.vt_type.specs.Variational.{HasError, by_side, choice}
-use Rattle.vt_type.specs.NormalForm.{Root, Made, root, HasRoot, AllHaveRoot, IsNormalForm, IsNormalFormOf}
+use Rattle.vt_type.specs.Variational.{by_side, choice, selected, IsWellFormedV}
+use Rattle.vt_type.specs.NormalForm.{Root, Made, root, HasRoot, AllHaveRoot, IsNormalForm, IsNormalFormOf, Total, map_of}
 use Rattle.vt_top.specs.declared.source.Literal.{Literal}
 use Rattle.vt_top.specs.declared.source.Literal.TheVariants.{Number, Truth}
+use Rattle.vt_type.specs.declared.vtype.VType.{VType}
 use Rattle.vt_top.specs.Spelling.{Program, One, Either}
-use Rattle.vt_top.specs.Meaning.{Means, type_of, selected_literal}
-use Rattle.vt_top.specs.Normal.{normal_of, literal_type}
+use Rattle.vt_top.specs.Meaning.{Means, dimensions, type_of, selected_literal}
+use Rattle.vt_top.specs.Normal.{typed_as, literal_type}
+use Rattle.vt_show.specs.Conditions.{DimsBelow}
+use Rattle.vt_norm.proofs.Congruence.{for_same_outcomes}
+use Rattle.vt_norm.proofs.Uniqueness.{unique}
+
+-- The normal form of each program that is read so far.
+abbrev normal_of : Program → VType
+normal_of (One literal) = literal_type literal
+normal_of (Either dimension (Number left) (Number right)) = literal_type (Number left)
+normal_of (Either dimension (Truth left) (Truth right)) = literal_type (Truth left)
+normal_of (Either dimension left right) = choice 0 (literal_type left) (literal_type right)
 
 -- the head of the type of a literal
 abbrev head_of : Literal → Head
@@ -84,11 +95,49 @@ normal_is (Either dimension (Truth left) (Truth right)) =
 normal_is (Either dimension (Number left) (Truth right)) = apart dimension (Number left) (Truth right) heads_differ
 normal_is (Either dimension (Truth left) (Number right)) = apart dimension (Truth left) (Number right) (λ e. heads_differ (sym e))
 
--- The error stands in none of these types.
-pub no_error : (program : Program) → HasError (normal_of program) → ⊥
-no_error (One (Number value)) error = error
-no_error (One (Truth value)) error = error
-no_error (Either dimension (Number left) (Number right)) error = error
-no_error (Either dimension (Truth left) (Truth right)) error = error
-no_error (Either dimension (Number left) (Truth right)) error = elim error [ inl e ↦ e | inr e ↦ e ]
-no_error (Either dimension (Truth left) (Number right)) error = elim error [ inl e ↦ e | inr e ↦ e ]
+-- Its one dimension, if it has one, has a name.
+normal_named : (program : Program) → DimsBelow (length (dimensions program)) (normal_of program)
+normal_named (One (Number value)) = tt
+normal_named (One (Truth value)) = tt
+normal_named (Either dimension (Number left) (Number right)) = tt
+normal_named (Either dimension (Truth left) (Truth right)) = tt
+normal_named (Either dimension (Number left) (Truth right)) = (lit< tt, tt, tt)
+normal_named (Either dimension (Truth left) (Number right)) = (lit< tt, tt, tt)
+
+-- Every normal form of what a program means is that one, so each of its dimensions has a name.
+pub named : (program : Program) (type : VType) → IsNormalFormOf type (Means program) → DimsBelow (length (dimensions program)) type
+named program type normal =
+    let total : List Side = replicate 64 Left in
+    let same = unique (Means program) Total (λ decision one other e f. e ∙ sym f) total refl (normal_of program) type (normal_is program) normal in
+    subst (DimsBelow (length (dimensions program))) same (normal_named program)
+
+-- the type as its parts have it is well formed
+pub typed_well_formed : (program : Program) → IsWellFormedV (typed_as program)
+typed_well_formed (One (Number value)) = (refl, tt)
+typed_well_formed (One (Truth value)) = (refl, tt)
+typed_well_formed (Either dimension (Number left) (Number right)) = (lit< tt, (refl, tt), (refl, tt))
+typed_well_formed (Either dimension (Truth left) (Truth right)) = (lit< tt, (refl, tt), (refl, tt))
+typed_well_formed (Either dimension (Number left) (Truth right)) = (lit< tt, (refl, tt), (refl, tt))
+typed_well_formed (Either dimension (Truth left) (Number right)) = (lit< tt, (refl, tt), (refl, tt))
+
+-- a literal selects its one type
+literal_selects : (decision : List Side) (literal : Literal) → selected decision (literal_type literal) ≡ Some (canonical (type_of literal))
+literal_selects decision (Number value) = refl
+literal_selects decision (Truth value) = refl
+
+-- an alternative that is taken selects its type
+side_selects : (decision : List Side) (left right : Literal) (side : Option Side) → by_side side (selected decision (literal_type left)) (selected decision (literal_type right)) ≡ Some (canonical (type_of (by_side side left right)))
+side_selects decision left right (Some Left) = literal_selects decision left
+side_selects decision left right (Some Right) = literal_selects decision right
+side_selects decision left right None = literal_selects decision left
+
+-- what is selected is what the program means
+selects : (program : Program) (decision : List Side) → selected decision (typed_as program) ≡ Some (canonical (type_of (selected_literal decision program)))
+selects (One literal) decision = literal_selects decision literal
+selects (Either dimension left right) decision = side_selects decision left right (slice_get decision 0)
+
+-- A normal form of the type as its parts have it is one of what the program means.
+pub normal_of_meaning : (program : Program) (type : VType) → IsNormalFormOf type (map_of (typed_as program)) → IsNormalFormOf type (Means program)
+normal_of_meaning program type normal =
+    let same = selects program in
+    for_same_outcomes type (map_of (typed_as program)) (Means program) Total (λ decision outcome total. (λ e. sym e ∙ same decision, λ e. same decision ∙ sym e)) normal

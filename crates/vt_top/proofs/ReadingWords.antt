@@ -1,4 +1,4 @@
-use Rattle.std.proofs.Common.{◌≡◌, ℕ, false, List, [], ◌∷◌, ◌++◌, length, inl, inr, arith, refl, ap, sym, one-add, take_at, drop_at}
+use Rattle.std.proofs.Common.{◌≡◌, ◌<◌, ℕ, zero, suc, false, List, [], ◌∷◌, ◌++◌, length, get_or, inl, inr, arith, lit<, refl, ap, sym, one-add, take_at, drop_at}
 use Rattle.std.specs.Bool.{Decides}
 use Rattle.std.proofs.lemmas.Bool.{cases_Bool}
 use Rattle.std.proofs.lemmas.Bool.Decides.{nat_tests}
@@ -76,3 +76,12 @@ AreNameParts-word (byte ∷ bytes) = elim (cases_Bool (is_name_part byte)) [
   | inl e ↦ rw (e, one-add) ((part_test byte).0 e, AreNameParts-word bytes)
   | inr e ↦ rw e tt
 ]
+
+part_ascii : (byte : ℕ) → IsNamePart byte → byte < 128
+part_ascii byte h = grind arith
+
+-- the parts of names are ASCII
+pub AreNameParts-ascii : (text : List ℕ) → AreNameParts text → (i : ℕ) → get_or text i 0 < 128
+AreNameParts-ascii [] h i = lit< tt
+AreNameParts-ascii (byte ∷ bytes) h zero = part_ascii byte h.0
+AreNameParts-ascii (byte ∷ bytes) h (suc i) = AreNameParts-ascii bytes h.1 i

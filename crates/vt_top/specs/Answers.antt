@@ -2,13 +2,13 @@ use Rattle.std.specs.Prelude.{◌≡◌, ◌≢◌, ℕ, ◌+◌, ◌<◌, ◌�
 use Rattle.vt_io.specs.Counts.{Rose}
 use Rattle.vt_io.specs.Written.{Grows, GrowsByFront}
 use Rattle.vt_type.specs.declared.vtype.VType.{VType}
-use Rattle.vt_type.specs.Variational.{HasError}
+use Rattle.vt_type.specs.Variational.{HasError, nodes}
 use Rattle.vt_type.specs.NormalForm.{IsNormalFormOf}
 use Rattle.vt_type.specs.Text.{text_of}
 use Rattle.vt_top.specs.declared.status.Status.{Status}
 use Rattle.vt_top.specs.declared.status.Status.TheVariants.{Done, Untyped, Usage, Refused, ReadFault, WriteFault, NoMemory}
 use Rattle.vt_top.specs.declared.refusal.Refusal.{Refusal}
-use Rattle.vt_top.specs.declared.refusal.Refusal.TheVariants.{TooLong, NotYet}
+use Rattle.vt_top.specs.declared.refusal.Refusal.TheVariants.{TooLong, NotYet, TooBig}
 use Rattle.vt_top.specs.Lines.{line, usage_line, read_fault_line, no_memory_line, refusal_line}
 use Rattle.vt_top.specs.Words.{Command, TypeOf, command_of, files_named}
 use Rattle.vt_top.specs.Spelling.{Program, Spells}
@@ -22,6 +22,9 @@ Holds held bytes = IfSome held (λ all. all ≡ bytes)
 abbrev pub IsRefused : List ℕ → Refusal → Type 0
 IsRefused bytes TooLong = 262144 < length bytes
 IsRefused bytes NotYet = (length bytes ≤ 262144) × ((program : Program) → Spells bytes program → ⊥)
+IsRefused bytes TooBig =
+    (program : Program) × (type : VType) × (length bytes ≤ 262144) × Spells bytes program
+    × IsNormalFormOf type (Means program) × (4096 < nodes type)
 
 -- The file spells a program, and the text is that of the normal form of what the program means.
 pub record IsTyped (bytes : List ℕ) (type : VType) (text : List ℕ) : Type 0 where
@@ -29,6 +32,7 @@ pub record IsTyped (bytes : List ℕ) (type : VType) (text : List ℕ) : Type 0 
   pub within : length bytes ≤ 262144
   pub spelled : Spells bytes program
   pub normal : IsNormalFormOf type (Means program)
+  pub small : nodes type ≤ 4096
   pub shown : text ≡ line (text_of (dimensions program) type)
 
 -- The defined answers of a file: a status and a text.

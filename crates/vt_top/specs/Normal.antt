@@ -1,42 +1,36 @@
-use Rattle.std.specs.Prelude.{ℕ, Bool, true, false, if◌then◌else◌, List, ◌++◌, codes}
-use Rattle.vt_type.specs.declared.head.Head.{Head}
+use Rattle.std.specs.Prelude.{◌≡◌, ℕ, ◌<◌, ◌≤◌, ◌⊎◌, List}
 use Rattle.vt_type.specs.declared.head.Head.TheVariants as head
 use Rattle.vt_type.specs.declared.vtype.VType.{VType, Con}
 use Rattle.vt_type.specs.declared.vtype.VKids.{Nil}
-use Rattle.vt_type.specs.Variational.{choice}
+use Rattle.vt_type.specs.Variational.{choice, nodes, HasError}
+use Rattle.vt_type.specs.NormalForm.{IsNormalFormOf}
 use Rattle.vt_type.specs.Text.{text_of}
 use Rattle.vt_top.specs.declared.source.Literal.{Literal}
 use Rattle.vt_top.specs.declared.source.Literal.TheVariants.{Number, Truth}
+use Rattle.vt_top.specs.declared.status.Status.{Status}
+use Rattle.vt_top.specs.declared.status.Status.TheVariants.{Done, Untyped, Refused}
+use Rattle.vt_top.specs.declared.refusal.Refusal.TheVariants.{TooBig}
+use Rattle.vt_top.specs.Lines.{line, refusal_line}
 use Rattle.vt_top.specs.Spelling.{Program, One, Either}
-use Rattle.vt_top.specs.Meaning.{dimensions}
+use Rattle.vt_top.specs.Meaning.{Means, dimensions}
 
 -- the type of a literal
 abbrev pub literal_type : Literal → VType
 literal_type (Number value) = Con head.Int Nil
 literal_type (Truth value) = Con head.Bool Nil
 
--- both literals have one type
-abbrev pub have_one_type : Literal → Literal → Bool
-have_one_type (Number left) (Number right) = true
-have_one_type (Truth left) (Truth right) = true
-have_one_type left right = false
+-- The type of a program as its parts have it, which may be no normal form.
+abbrev pub typed_as : Program → VType
+typed_as (One literal) = literal_type literal
+typed_as (Either dimension left right) = choice 0 (literal_type left) (literal_type right)
 
--- the text of the type of a literal
-abbrev pub literal_text : Literal → List ℕ
-literal_text (Number value) = codes "Int"
-literal_text (Truth value) = codes "Bool"
+-- A type is printed, with the status by whether the error stands in it.
+abbrev pub IsPrinted : List (List ℕ) → VType → Status → List ℕ → Type 0
+IsPrinted dims type status text =
+    (text ≡ line (text_of dims type)) × (((status ≡ Done) × (HasError type → ⊥)) ⊎ ((status ≡ Untyped) × HasError type))
 
--- the text of a choice between two types
-abbrev pub choice_text : List ℕ → List ℕ → List ℕ → List ℕ
-choice_text name left right = codes "@" ++ name ++ codes "{" ++ left ++ codes ", " ++ right ++ codes "}"
-
--- The normal form of what a program means, for the programs that are read so far. That it is so is a
--- theorem.
-abbrev pub normal_of : Program → VType
-normal_of (One literal) = literal_type literal
-normal_of (Either dimension left right) =
-    if have_one_type left right then literal_type left else choice 0 (literal_type left) (literal_type right)
-
--- the text of this normal form
-abbrev pub type_text : Program → List ℕ
-type_text program = text_of (dimensions program) (normal_of program)
+-- The defined answers of a program: the normal form of what it means, or that this is too big.
+abbrev pub ProgramAnswer : Program → Status → List ℕ → Type 0
+ProgramAnswer program status text =
+    ((type : VType) × IsNormalFormOf type (Means program) × (nodes type ≤ 4096) × IsPrinted (dimensions program) type status text)
+    ⊎ ((type : VType) × IsNormalFormOf type (Means program) × (4096 < nodes type) × (status ≡ Refused) × (text ≡ refusal_line TooBig))

@@ -1,11 +1,14 @@
 //! The answer of the words, before it is written.
-ghost use Rattle.std.specs.Prelude.{◌≡◌, ◌≤◌, ◌++◌, List, ℕ, length, map, IsSome, Contains, IfOk, OnOk, IsErrOf};
+ghost use Rattle.std.specs.Prelude.{◌≡◌, ◌≤◌, List, ℕ, length, map, IsSome, Contains, IfOk, IsErrOf, string_bytes};
 ghost use Rattle.std.specs.Option.{option_map};
 ghost use Rattle.vt_io.specs.Counts.{Rose};
-ghost use Rattle.vt_top.specs.Lines.{usage_line, refusal_line, line};
+ghost use Rattle.vt_top.specs.Lines.{usage_line, refusal_line};
 ghost use Rattle.vt_top.specs.Words.{texts, TypeOf, command_of, files_named};
 ghost use Rattle.vt_top.specs.Reading.{program_in};
-ghost use Rattle.vt_top.specs.Normal.{type_text, choice_text, literal_text, have_one_type};
+ghost use Rattle.vt_top.specs.Meaning.{dimensions};
+ghost use Rattle.vt_top.specs.Normal.{typed_as, literal_type, IsPrinted, ProgramAnswer};
+ghost use Rattle.vt_type.specs.Variational.{IsWellFormedV};
+ghost use Rattle.vt_show.specs.Conditions.{DimsBelow};
 ghost use Rattle.vt_top.specs.Answers.{Out, FileAnswer, GrewByAtMost};
 
 use crate::refusal::Refusal;
@@ -13,16 +16,23 @@ use crate::source::{Literal, Source};
 use crate::{Status, reader};
 use std::alloc::{AllocError, Global};
 use thiserror::Error;
+use vt_dec::Dim;
 use vt_io::{FetchFault, Fetched, Files};
+use vt_norm::{NormalFault, normal_within};
+use vt_show::show_type;
+use vt_type::{Head, Names, Tables, VKids, VType};
 
 /// The most bytes that a file may have.
 const LARGEST_FILE: usize = 262144;
+
+/// The most nodes that a printed type may have.
+const LARGEST_TYPE: u64 = 4096;
 
 /// A status and the text that goes with it.
 #[derive(Debug, Drop)]
 pub struct Answer {
     pub status: Status,
-    pub text: Vec<u8>,
+    pub text: String,
 }
 
 /// Why there is no answer.
@@ -61,7 +71,7 @@ impl From<FetchFault> for Fault {
 
 /// The answer of the words, with at most one fetch for each file that they name.
 pub fn prepare<F: Files>(alloc: Global, words: &[String], files: &mut F) -> Result<Answer, Fault>
-    ensures defined { IfOk result (λ a. Out (command_of (texts words.now)) (F.held files.old) a.status a.text.items) }
+    ensures defined { IfOk result (λ a. Out (command_of (texts words.now)) (F.held files.old) a.status (string_bytes a.text)) }
     ensures failed { IsErrOf result Fault.Read → (file : List ℕ) × Contains (files_named (command_of (texts words.now))) file × Rose (F.faults files.old file) (F.faults files.new file) }
 
     ensures held { (name : List ℕ) → F.held files.new name ≡ F.held files.old name }
@@ -89,92 +99,99 @@ fn file_named(words: &[String]) -> Option<&str>
 }
 
 fn usage(alloc: Global) -> Result<Answer, AllocError>
-    ensures { IfOk result (λ a. (a.status ≡ Status.Usage) × (a.text.items ≡ usage_line)) }
+    ensures { IfOk result (λ a. (a.status ≡ Status.Usage) × (string_bytes a.text ≡ usage_line)) }
 {
     Ok(Answer {
         status: Status::Usage,
-        text: Vec::from_slice(alloc, b"usage: vtc COMMAND ARGUMENTS\n")?,
+        text: String::from_str(alloc, "usage: vtc COMMAND ARGUMENTS\n")?,
     })
 }
 
 fn refused(alloc: Global, refusal: Refusal) -> Result<Answer, AllocError>
-    ensures { IfOk result (λ a. (a.status ≡ Status.Refused) × (a.text.items ≡ refusal_line refusal)) }
+    ensures { IfOk result (λ a. (a.status ≡ Status.Refused) × (string_bytes a.text ≡ refusal_line refusal)) }
 {
     let line = match refusal {
-        Refusal::TooLong => Vec::from_slice(alloc, b"file too long\n")?,
-        Refusal::NotYet => Vec::from_slice(alloc, b"not supported yet\n")?,
+        Refusal::TooLong => "file too long\n",
+        Refusal::NotYet => "not supported yet\n",
+        Refusal::TooBig => "type of - has more than 4096 nodes\n",
     };
     Ok(Answer {
         status: Status::Refused,
-        text: line,
+        text: String::from_str(alloc, line)?,
     })
 }
 
 // The answer of a file that is not too long.
 fn file_answer(alloc: Global, bytes: &[u8]) -> Result<Answer, AllocError>
     requires { length bytes.now ≤ 262144 }
-    ensures { IfOk result (λ a. FileAnswer bytes.now a.status a.text.items) }
+    ensures { IfOk result (λ a. FileAnswer bytes.now a.status (string_bytes a.text)) }
 {
     match reader::read(bytes) {
         None => refused(alloc, Refusal::NotYet),
-        Some(source) => Ok(Answer {
-            status: Status::Done,
-            text: type_line(alloc, &source)?,
-        }),
+        Some(source) => program_answer(alloc, &source),
     }
 }
 
-fn type_line(alloc: Global, source: &Source<'_>) -> Result<Vec<u8>, AllocError>
-    ensures { IfOk result (λ text. text.items ≡ line (type_text (program_in source.now))) }
+// The answer of a program.
+fn program_answer(alloc: Global, source: &Source<'_>) -> Result<Answer, AllocError>
+    ensures { IfOk result (λ a. ProgramAnswer (program_in source.now) a.status (string_bytes a.text)) }
 {
-    let mut text = Vec::new(alloc);
-    push_type(&mut text, source)?;
-    text.push(b'\n')?;
-    Ok(text)
+    let whole = type_of(alloc, source)?;
+    let tables = tables_of(alloc, source)?;
+    match normal_within(alloc, &whole, LARGEST_TYPE) {
+        Ok(normal) => typed(alloc, &normal, &tables),
+        Err(NormalFault::TooBig) => refused(alloc, Refusal::TooBig),
+        Err(NormalFault::Memory) => Err(AllocError),
+    }
 }
 
-// Writes the text of the normal form at the end.
-fn push_type(text: &mut Vec<u8>, source: &Source<'_>) -> Result<(), AllocError>
-    ensures { OnOk result (text.new.items ≡ text.old.items ++ type_text (program_in source.now)) }
+// The answer that prints a type.
+fn typed(alloc: Global, normal: &VType, tables: &Tables) -> Result<Answer, AllocError>
+    requires well_formed { IsWellFormedV normal.now }
+    requires named { DimsBelow (length tables.now.dims) normal.now }
+    ensures { IfOk result (λ a. IsPrinted tables.now.dims normal.now a.status (string_bytes a.text)) }
+{
+    let mut text = show_type(alloc, normal, tables)?;
+    text.push_str("\n")?;
+    let status = if normal.has_error() {
+        Status::Untyped
+    } else {
+        Status::Done
+    };
+    Ok(Answer { status, text })
+}
+
+// The type of a program as its parts have it, which may be no normal form.
+fn type_of(alloc: Global, source: &Source<'_>) -> Result<VType, AllocError>
+    ensures { IfOk result (λ whole. whole ≡ typed_as (program_in source.now)) }
 {
     match source {
-        Source::Literal(literal) => text.extend_from_slice(type_name(literal)),
-        Source::Choice(name, left, right) => {
-            if have_one_type(left, right) {
-                text.extend_from_slice(type_name(left))
-            } else {
-                push_choice(text, name, type_name(left), type_name(right))
-            }
+        Source::Literal(literal) => Ok(literal_type(literal)),
+        Source::Choice(_, left, right) => {
+            VType::choice(alloc, Dim(0), literal_type(left), literal_type(right))
         }
     }
 }
 
-fn push_choice(text: &mut Vec<u8>, name: &[u8], left: &[u8], right: &[u8]) -> Result<(), AllocError>
-    ensures { OnOk result (text.new.items ≡ text.old.items ++ choice_text name.now left.now right.now) }
-{
-    text.extend_from_slice(b"@")?;
-    text.extend_from_slice(name)?;
-    text.extend_from_slice(b"{")?;
-    text.extend_from_slice(left)?;
-    text.extend_from_slice(b", ")?;
-    text.extend_from_slice(right)?;
-    text.extend_from_slice(b"}")
-}
-
-fn type_name(literal: &Literal) -> &'static [u8]
-    ensures { result.now ≡ literal_text literal.now }
+fn literal_type(literal: &Literal) -> VType
+    ensures { result ≡ literal_type literal.now }
 {
     match literal {
-        Literal::Number(_) => b"Int",
-        Literal::Truth(_) => b"Bool",
+        Literal::Number(_) => VType::Con(Head::Int, VKids::Nil),
+        Literal::Truth(_) => VType::Con(Head::Bool, VKids::Nil),
     }
 }
 
-fn have_one_type(left: &Literal, right: &Literal) -> bool
-    ensures { result ≡ have_one_type left.now right.now }
+// The names of the dimensions.
+fn tables_of(alloc: Global, source: &Source<'_>) -> Result<Tables, AllocError>
+    ensures { IfOk result (λ tables. tables.dims ≡ dimensions (program_in source.now)) }
 {
-    match left {
-        Literal::Number(_) => matches!(right, Literal::Number(_)),
-        Literal::Truth(_) => matches!(right, Literal::Truth(_)),
+    let mut dims = Names::new(alloc);
+    if let Source::Choice(name, _, _) = source {
+        dims.add(name)?;
     }
+    Ok(Tables {
+        dims,
+        datas: Names::new(alloc),
+    })
 }

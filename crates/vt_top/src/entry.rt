@@ -34,7 +34,7 @@ pub fn run<F: Files, S: Sink>(
         → IsComplete (call_of (texts words.now) (F.held files.old) (F.faults files.old) (F.faults files.new) (S.faults sink.old) (S.faults sink.new) (S.written sink.old) (S.written sink.new)) result }
 {
     match prepare(alloc, words, files) {
-        Ok(Answer { status, text }) => write(sink, status, &text),
+        Ok(Answer { status, text }) => write(sink, status, text.as_bytes()),
         Err(Fault::Read) => write(sink, Status::ReadFault, b"read failed\n"),
         Err(Fault::Memory) => write(sink, Status::NoMemory, b"out of memory\n"),
     }

@@ -2,9 +2,10 @@
 ghost use Rattle.std.specs.Prelude.{◌≡◌, ◌+◌, ◌-◌, ◌*◌, ◌^◌, ◌<◌, ◌≤◌, true, length, MatchOption, SomeIff};
 ghost use Rattle.std.specs.Option.{option_map, option_copied};
 ghost use Rattle.vt_top.specs.Spelling.{number_after, IsReading};
-ghost use Rattle.vt_top.specs.Reading.{is_blank, is_digit, is_name_start, is_name_part, is_name, at_end, after_blanks, word_length, word, after_word, are_digits, number_of, literal_of, after_sign, literal_at, alternatives_at, choice_at, one_at, program_in};
+ghost use Rattle.vt_top.specs.Reading.{is_blank, is_digit, is_name_start, is_name_part, is_name, at_end, after_blanks, word_length, word, after_word, are_digits, number_of, literal_of, after_sign, literal_at, alternatives_at, name_at, choice_at, one_at, program_in};
 
 use crate::source::{Literal, Source};
+use std::str;
 
 /// The largest number that may be written.
 const LARGEST_NUMBER: u64 = 9223372036854775807;
@@ -29,12 +30,23 @@ fn read_one(text: &[u8]) -> Option<Source<'_>>
 fn read_choice(text: &[u8]) -> Option<Source<'_>>
     ensures { option_map program_in result ≡ choice_at text.now }
 {
-    let (name, rest) = split_word(text);
-    if !is_name(name) {
-        return None;
-    }
+    let (name, rest) = name_at(text)?;
     let (left, right, rest) = alternatives(rest)?;
     at_end(Source::Choice(name, left, right), rest)
+}
+
+// The name of a dimension, and what stands after it.
+fn name_at(text: &[u8]) -> Option<(&str, &[u8])>
+    ensures { option_map (λ found. (found.0.now, found.1.now)) result ≡ name_at text.now }
+{
+    let (word, rest) = split_word(text);
+    if !is_name(word) {
+        return None;
+    }
+    match str::from_utf8(word) {
+        Ok(name) => Some((name, rest)),
+        Err(_) => unreachable!(),
+    }
 }
 
 fn alternatives(text: &[u8]) -> Option<(Literal, Literal, &[u8])>

@@ -5,4 +5,6 @@ pub enum Refusal {
     TooLong,
     /// It is no program that is read so far.
     NotYet,
+    /// Its type has more than 4,096 nodes.
+    TooBig,
 }

@@ -9,5 +9,5 @@ pub enum Literal {
 #[derive(Debug, Drop)]
 pub enum Source<'a> {
     Literal(Literal),
-    Choice(&'a [u8], Literal, Literal),
+    Choice(&'a str, Literal, Literal),
 }

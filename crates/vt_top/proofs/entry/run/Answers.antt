@@ -9,8 +9,8 @@ use Rattle.vt_top.proofs.entry.run.Goals as goal
 pub returns-in-Ok-clause-answers : goal.returns-in-Ok-clause-answers
 returns-in-Ok-clause-answers g c =
     let call : Call = call_of (texts c.args.words.now) (g.F.Files.held c.args.files.now) (g.F.Files.faults c.args.files.now) (g.F.Files.faults c.prepare.new.files) (g.S.Sink.faults c.args.sink.now) (g.S.Sink.faults c.write.new.sink) (g.S.Sink.written c.args.sink.now) (g.S.Sink.written c.write.new.sink) in
-    let prepared = out_prepares call c.in-Ok.field-0.status c.deref.result.now (rw c.deref.ensures.value c.in-Ok.ensures.defined) in
-    written_answers call c.in-Ok.field-0.status c.deref.result.now c.write.result prepared c.write.ensures.written
+    let prepared = out_prepares call c.in-Ok.field-0.status c.as_bytes.result.now (rw c.as_bytes.ensures.value c.in-Ok.ensures.defined) in
+    written_answers call c.in-Ok.field-0.status c.as_bytes.result.now c.write.result prepared c.write.ensures.written
 
 pub returns-in-Err-Read-clause-answers : goal.returns-in-Err-Read-clause-answers
 returns-in-Err-Read-clause-answers g c =

@@ -1,0 +1,13 @@
+pub mod Signs
+pub mod LetterTexts
+pub mod Renamings
+pub mod SpelledIsRead
+pub mod ReadIsSpelled
+pub mod Readings
+pub mod Writing
+pub mod Distincts
+pub mod FirstPlaces
+pub mod StepByStep
+pub mod NormalPlaces
+pub mod Numbered
+pub mod ReadBack

@@ -1,0 +1,73 @@
+use Rattle.std.specs.Prelude.{◌≡◌, ℕ, ◌+◌, List, [], ◌∷◌, ◌++◌, Option, Some, None, unwrap_or, slice_get, codes, Contains, All}
+use Rattle.std.specs.Map.{lookup}
+use Rattle.std.specs.Str.{bytes_eq}
+use Rattle.vt_type.specs.declared.head.Head.TheVariants.{Int, Bool, Text, List as ListOf, Pair, Fun}
+use Rattle.vt_type.specs.declared.vtype.VType.{VType, Var, Con, Err}
+use Rattle.vt_type.specs.declared.vtype.VKids.{VKids, Nil}
+use Rattle.vt_type.specs.Variational.{vkids_of, choice}
+use Rattle.vt_type.specs.Text.{letter}
+
+-- Which texts spell which types, over the names of the dimensions. The level is 0 where any type may
+-- stand, 1 to the left of an arrow, 2 on either side of a star. A variable goes by the number of its
+-- letter. Parentheses round a type spell that type.
+pub data Spells (dims : List (List ℕ)) : ℕ → List ℕ → VType → Type 0 where
+  int : Spells dims 2 (codes "Int") (Con Int Nil)
+  bool : Spells dims 2 (codes "Bool") (Con Bool Nil)
+  string : Spells dims 2 (codes "String") (Con Text Nil)
+  error : Spells dims 2 (codes "!") Err
+  variable : (n : ℕ) → Spells dims 2 (letter n) (Var (n ∷ []))
+  list : (text : List ℕ) (item : VType) → Spells dims 0 text item
+      → Spells dims 2 (codes "[" ++ text ++ codes "]") (Con ListOf (vkids_of item Nil))
+  parentheses : (text : List ℕ) (type : VType) → Spells dims 0 text type
+      → Spells dims 2 (codes "(" ++ text ++ codes ")") type
+  either : (dim : ℕ) (name left right : List ℕ) (one other : VType) → slice_get dims dim ≡ Some name
+      → Spells dims 0 left one → Spells dims 0 right other
+      → Spells dims 2 (codes "@" ++ name ++ codes "{" ++ left ++ codes ", " ++ right ++ codes "}") (choice dim one other)
+  pair : (left right : List ℕ) (one other : VType) → Spells dims 2 left one → Spells dims 2 right other
+      → Spells dims 1 (left ++ codes " * " ++ right) (Con Pair (vkids_of one (vkids_of other Nil)))
+  one_atom : (text : List ℕ) (type : VType) → Spells dims 2 text type → Spells dims 1 text type
+  arrow : (left right : List ℕ) (from to : VType) → Spells dims 1 left from → Spells dims 0 right to
+      → Spells dims 0 (left ++ codes " -> " ++ right) (Con Fun (vkids_of from (vkids_of to Nil)))
+  no_arrow : (text : List ℕ) (type : VType) → Spells dims 1 text type → Spells dims 0 text type
+
+-- the variables of a type in the order of its text, each with the path at which it stands; choices are
+-- no step of a path
+abbrev mutual
+  pub places : List ℕ → VType → List (List ℕ × List ℕ)
+  places at (Var name) = (name, at) ∷ []
+  places at (Con top kids) = kids_places at 0 kids
+  places at (choice dim left right) = places at left ++ places at right
+  places at Err = []
+
+  pub kids_places : List ℕ → ℕ → VKids → List (List ℕ × List ℕ)
+  kids_places at n Nil = []
+  kids_places at n (vkids_of kid kids) = places (at ++ n ∷ []) kid ++ kids_places at (n + 1) kids
+
+-- each variable under another name
+abbrev mutual
+  pub renamed : (List ℕ → List ℕ) → VType → VType
+  renamed name_of (Var name) = Var (name_of name)
+  renamed name_of (Con top kids) = Con top (kids_renamed name_of kids)
+  renamed name_of (choice dim left right) = choice dim (renamed name_of left) (renamed name_of right)
+  renamed name_of Err = Err
+
+  pub kids_renamed : (List ℕ → List ℕ) → VKids → VKids
+  kids_renamed name_of Nil = Nil
+  kids_renamed name_of (vkids_of kid kids) = vkids_of (renamed name_of kid) (kids_renamed name_of kids)
+
+-- each variable named by the path of its first appearance
+abbrev pub by_first_place : VType → VType
+by_first_place type = renamed (λ name. unwrap_or (lookup (bytes_eq name) (places [] type)) name) type
+
+-- The text is read as this type: it spells one whose variables, named by their first places, make it.
+abbrev pub IsRead : List (List ℕ) → List ℕ → VType → Type 0
+IsRead dims text type = (spelled : VType) × Spells dims 0 text spelled × (type ≡ by_first_place spelled)
+
+-- what a reader answers: the type that the text is read as, or nothing where it spells none
+abbrev pub IsReading : List (List ℕ) → List ℕ → Option VType → Type 0
+IsReading dims text (Some type) = IsRead dims text type
+IsReading dims text None = (spelled : VType) → Spells dims 0 text spelled → ⊥
+
+-- no name holds the brace that ends it in a text
+abbrev pub LackBraces : List (List ℕ) → Type 0
+LackBraces dims = All (λ name. Contains name 123 → ⊥) dims

@@ -1,0 +1,82 @@
+//! Variables named by their first places.
+ghost use Rattle.std.specs.Prelude.{◌≡◌, ℕ, ◌+◌, ◌<◌, List, ◌++◌, IfOk, OnOk};
+ghost use Rattle.vt_type.specs.Variational.{vkid_count, IsWellFormedV, AreWellFormedV};
+ghost use Rattle.vt_show.specs.Reading.{places, kids_places, renamed, kids_renamed, by_first_place};
+ghost use Rattle.vt_type.specs.Canonical.{FindsAs};
+ghost use Rattle.vt_show.specs.Places.{first_name};
+
+use crate::places::Places;
+use std::alloc::{AllocError, Global};
+use vt_type::{VKids, VType};
+
+/// The type with each variable named by the path at which it appears first.
+pub fn by_first_place(vtype: &VType, alloc: Global) -> Result<VType, AllocError>
+    requires { IsWellFormedV vtype.now }
+    ensures { IfOk result (λ t. t ≡ by_first_place vtype.now) }
+{
+    let mut way = Vec::new(alloc);
+    let mut met = Places::new(alloc);
+    renamed(vtype, alloc, &mut way, &mut met)
+}
+
+// The type at `way`, with each variable named by where it was met first.
+#[cycle(first_places)]
+fn renamed(
+    vtype: &VType,
+    alloc: Global,
+    way: &mut Vec<u8>,
+    met: &mut Places,
+) -> Result<VType, AllocError>
+    requires { IsWellFormedV vtype.now }
+    ensures way { OnOk result (way.new.items ≡ way.old.items) }
+    ensures places { OnOk result (FindsAs met.new (met.old ++ places way.old.items vtype.now)) }
+    ensures renamed { IfOk result (λ t. (later : List (List ℕ × List ℕ)) → t ≡ renamed (first_name (met.old ++ (places way.old.items vtype.now ++ later))) vtype.now) }
+{
+    match vtype {
+        VType::Var(name) => {
+            let first = met.meet(alloc, name.as_slice(), way.as_slice())?;
+            Ok(VType::Var(first))
+        }
+        VType::Con(head, kids) => {
+            let head = *head;
+            // Its arity is what bounds the numbers of its children.
+            let _arity = head.arity();
+            let kids = renamed_kids(kids, alloc, 0, way, met)?;
+            Ok(VType::Con(head, kids))
+        }
+        VType::Choice(dim, left, right) => {
+            let dim = *dim;
+            let left = renamed(left.get(), alloc, way, met)?;
+            let right = renamed(right.get(), alloc, way, met)?;
+            VType::choice(alloc, dim, left, right)
+        }
+        VType::Err => Ok(VType::Err),
+    }
+}
+
+// The children at `way`, of which the first has this number.
+#[cycle(first_places)]
+fn renamed_kids(
+    kids: &VKids,
+    alloc: Global,
+    number: u8,
+    way: &mut Vec<u8>,
+    met: &mut Places,
+) -> Result<VKids, AllocError>
+    requires well_formed { AreWellFormedV kids.now }
+    requires numbers { number + vkid_count kids.now < 256 }
+    ensures way { OnOk result (way.new.items ≡ way.old.items) }
+    ensures places { OnOk result (FindsAs met.new (met.old ++ kids_places way.old.items number kids.now)) }
+    ensures renamed { IfOk result (λ ts. (later : List (List ℕ × List ℕ)) → ts ≡ kids_renamed (first_name (met.old ++ (kids_places way.old.items number kids.now ++ later))) kids.now) }
+{
+    match kids {
+        VKids::Nil => Ok(VKids::Nil),
+        VKids::More(first, others) => {
+            way.push(number)?;
+            let first = renamed(first.get(), alloc, way, met)?;
+            way.pop();
+            let others = renamed_kids(others.get(), alloc, number + 1, way, met)?;
+            VKids::more(alloc, first, others)
+        }
+    }
+}

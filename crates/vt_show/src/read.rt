@@ -1,0 +1,26 @@
+//! Types read from their texts.
+ghost use Rattle.std.specs.Prelude.{◌≤◌, length, IfOk, IfSome};
+ghost use Rattle.vt_type.specs.Variational.{IsWellFormedV};
+ghost use Rattle.vt_show.specs.Reading.{IsReading, LackBraces};
+
+use crate::first_places::by_first_place;
+use crate::reader::{Miss, read_whole};
+use std::alloc::{AllocError, Global};
+use vt_type::{Tables, VType};
+
+/// The type that a text spells over the dimensions of the tables, if it spells one. Each variable is
+/// named by the path of its first appearance.
+pub fn read_type(alloc: Global, text: &str, tables: &Tables) -> Result<Option<VType>, AllocError>
+    requires few { length tables.now.dims ≤ 64 }
+    requires named { LackBraces tables.now.dims }
+    ensures read { IfOk result (λ read. IsReading tables.now.dims text.now read) }
+    ensures well_formed { IfOk result (λ read. IfSome read IsWellFormedV) }
+{
+    // That the names differ is what makes the reading the only one.
+    let _count = tables.dims.len();
+    match read_whole(text.as_bytes(), alloc, &tables.dims) {
+        Ok(lettered) => Ok(Some(by_first_place(&lettered, alloc)?)),
+        Err(Miss::NotSpelled) => Ok(None),
+        Err(Miss::Memory(error)) => Err(error),
+    }
+}
