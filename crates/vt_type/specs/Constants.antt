@@ -12,19 +12,23 @@ pub record Constant : Type 0 where
   pub name : Option (List ℕ)
   pub closed : Plain
 
--- the types
+-- the type of integers
 abbrev pub int : Plain
 int = Con head.Int Nil
 
+-- the type of truth values
 abbrev pub bool : Plain
 bool = Con head.Bool Nil
 
+-- the type of strings
 abbrev pub string : Plain
 string = Con head.Text Nil
 
+-- lists of an item
 abbrev pub list : Plain → Plain
 list item = Con head.List (kids_of item Nil)
 
+-- pairs of two
 abbrev pub pair : Plain → Plain → Plain
 pair left right = Con head.Pair (kids_of left (kids_of right Nil))
 
@@ -33,10 +37,11 @@ infixr 10 ◌⇒◌
 abbrev pub ◌⇒◌ : Plain → Plain → Plain
 from ⇒ to = Con head.Fun (kids_of from (kids_of to Nil))
 
--- two variables
+-- one variable
 abbrev pub a : Plain
 a = Var (0 ∷ [])
 
+-- another one
 abbrev pub b : Plain
 b = Var (1 ∷ [])
 

@@ -7,7 +7,7 @@ ghost use Rattle.vt_type.specs.Canonical.{canonical, IsCanonical};
 ghost use Rattle.vt_type.specs.Constants.{core_constants, HasName, HasClosed};
 ghost use Rattle.vt_type.specs.Entries.{constant_of};
 
-use crate::core_constants::{core_name, core_type};
+use crate::core_constants::{CORE_COUNT, core_name, core_type};
 use crate::{Plain, canon};
 use std::alloc::{AllocError, Global};
 use std::marker::Model;
@@ -101,7 +101,7 @@ impl Constants {
         ensures { IfOk result (λ table. table ≡ core_constants) }
     {
         let mut entries = Vec::new(alloc);
-        for number in 0..18 {
+        for number in 0..CORE_COUNT {
             entries.push(core_entry(alloc, number)?)?;
         }
         Ok(Constants { entries })
@@ -131,7 +131,7 @@ impl Constants {
 }
 
 fn core_entry(alloc: Global, number: u32) -> Result<Entry, AllocError>
-    requires { number < 18 }
+    requires { number < CORE_COUNT }
     ensures { IfOk result (λ entry. slice_get core_constants number ≡ Some (constant_of entry)) }
 {
     let name = owned(alloc, core_name(number))?;

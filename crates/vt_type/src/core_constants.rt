@@ -8,9 +8,12 @@ ghost use Rattle.vt_type.specs.Constants.{core_constants, HasClosed, ◌⇒◌, 
 use crate::{Path, Plain};
 use std::alloc::{AllocError, Global};
 
+/// How many constants the language has.
+pub const CORE_COUNT: u32 = 18;
+
 /// The name by which a program writes the constant, if it has one.
 pub fn core_name(number: u32) -> Option<&'static str>
-    requires { number < 18 }
+    requires { number < CORE_COUNT }
     ensures { slice_get (map (λ c. c.name) core_constants) number ≡ Some (option_copied result) }
 {
     match number {
@@ -24,7 +27,7 @@ pub fn core_name(number: u32) -> Option<&'static str>
 
 /// The type of the constant, up to the names of its variables.
 pub fn core_type(alloc: Global, number: u32) -> Result<Plain, AllocError>
-    requires { number < 18 }
+    requires { number < CORE_COUNT }
     ensures closed { IfOk result (λ t. HasClosed core_constants number (canonical t)) }
     ensures well_formed { IfOk result IsWellFormed }
 {
