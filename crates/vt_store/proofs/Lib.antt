@@ -1,0 +1,11 @@
+pub mod Cells
+pub mod Acyclic
+pub mod MostGeneral
+pub mod Slices
+pub mod Links
+pub mod Writing
+pub mod Branching
+pub mod FateShapes
+pub mod DiagramShapes
+pub mod StoreSteps
+pub mod Appending

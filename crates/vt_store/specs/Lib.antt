@@ -1,0 +1,10 @@
+pub mod Ends
+pub mod Solutions
+pub mod Laws
+pub mod Branches
+pub mod Writes
+pub mod Fates
+pub mod Patterns
+pub mod Diagrams
+pub mod Views
+pub mod Stores

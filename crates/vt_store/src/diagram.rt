@@ -1,0 +1,194 @@
+//! A diagram of ends: what a cell is bound to at each decision.
+ghost use Rattle.std.specs.Prelude.{◌≡◌, ◌⊎◌, ℕ, ◌*◌, ◌<◌, ◌≤◌, length, List, Some, None, IfSome, IfOk};
+ghost use Rattle.vt_dec.specs.declared.side.Side.{Side};
+ghost use Rattle.vt_dec.specs.Decisions.{Admits, IsSideOf, IsKept};
+ghost use Rattle.vt_store.specs.Branches.{IsLeastBranch};
+ghost use Rattle.vt_store.specs.Writes.{IsWrite, IsBefore, IsGapTo};
+ghost use Rattle.vt_store.specs.Ends.{CellEnd, Same};
+ghost use Rattle.vt_store.specs.Diagrams.{choice, end_in, IsOrdered, IsBehind, HasCells, HasRoom, Passes, raised};
+ghost use Rattle.vt_store.specs.Views.{seen};
+
+use crate::walk::{after, next_before, side_in};
+use crate::{CellId, CellList, End};
+use sqlite_items::Boxed;
+use std::alloc::{AllocError, Global};
+use vt_dec::{Context, Decision, Dim, Side};
+use vt_type::Head;
+
+/// The ends by the sides that a decision takes. Dimensions rise on every way down.
+#[derive(Debug, Drop)]
+pub(crate) enum Diagram {
+    Open,
+    Link(CellId),
+    Con(Head, CellList),
+    Choice(Dim, Boxed<Diagram>, Boxed<Diagram>),
+}
+
+impl Diagram {
+    pub(crate) fn choice(
+        alloc: Global,
+        dim: Dim,
+        left: Diagram,
+        right: Diagram,
+    ) -> Result<Diagram, AllocError>
+        ensures { IfOk result (λ diagram. diagram ≡ choice dim left right) }
+    {
+        let left = Boxed::new(alloc, left)?;
+        let right = Boxed::new(alloc, right)?;
+        Ok(Diagram::Choice(dim, left, right))
+    }
+
+    /// The same diagram again.
+    fn copied(&self, alloc: Global) -> Result<Diagram, AllocError>
+        ensures { IfOk result (λ diagram. diagram ≡ self.now) }
+    {
+        match self {
+            Diagram::Open => Ok(Diagram::Open),
+            Diagram::Link(cell) => Ok(Diagram::Link(*cell)),
+            Diagram::Con(head, kids) => {
+                let head = *head;
+                Ok(Diagram::Con(head, kids.copied(alloc)?))
+            }
+            Diagram::Choice(dim, left, right) => {
+                let dim = *dim;
+                let left = left.get().copied(alloc)?;
+                let right = right.get().copied(alloc)?;
+                Diagram::choice(alloc, dim, left, right)
+            }
+        }
+    }
+
+    /// The same diagram with every cell's number raised.
+    pub(crate) fn raised(&self, alloc: Global, by: usize) -> Result<Diagram, AllocError>
+        requires { HasRoom by self.now }
+        ensures { IfOk result (λ diagram. diagram ≡ raised by self.now) }
+    {
+        match self {
+            Diagram::Open => Ok(Diagram::Open),
+            Diagram::Link(cell) => Ok(Diagram::Link(CellId(cell.0 + by))),
+            Diagram::Con(head, kids) => {
+                let head = *head;
+                Ok(Diagram::Con(head, kids.raised(alloc, by)?))
+            }
+            Diagram::Choice(dim, left, right) => {
+                let dim = *dim;
+                let left = left.get().raised(alloc, by)?;
+                let right = right.get().raised(alloc, by)?;
+                Diagram::choice(alloc, dim, left, right)
+            }
+        }
+    }
+
+    /// The end at a decision.
+    pub(crate) fn at<const N: usize>(&self, decision: &Decision<N>) -> End<'_>
+        requires { IsOrdered (64 * N) 0 self.now }
+        ensures { seen result ≡ end_in decision.now self.now }
+    {
+        let mut part = self;
+        loop {
+            match part {
+                Diagram::Open => return End::Open,
+                Diagram::Link(cell) => return End::Link(*cell),
+                Diagram::Con(head, kids) => return End::Con(*head, kids.as_slice()),
+                Diagram::Choice(dim, left, right) => {
+                    part = match decision.side(*dim) {
+                        Side::Left => left.get(),
+                        Side::Right => right.get(),
+                    };
+                }
+            }
+        }
+    }
+
+    /// The first dimension of which admitted decisions come by a choice on either side.
+    pub(crate) fn branch<const N: usize>(&self, within: &Context<N>) -> Option<Dim>
+        requires { IsOrdered (64 * N) 0 self.now }
+        ensures least { IsLeastBranch within.now (Passes self.now) result }
+        ensures both { IfSome result (λ dim. (dim < 64 * N) × IsSideOf within.now dim None) }
+        ensures alike { result ≡ None → (one other : List Side) → Admits within.now one → Admits within.now other → end_in one self.now ≡ end_in other self.now }
+    {
+        let mut part = self;
+        loop {
+            match part {
+                Diagram::Choice(dim, left, right) => match within.side(*dim) {
+                    None => return Some(*dim),
+                    Some(side) => {
+                        part = match side {
+                            Side::Left => left.get(),
+                            Side::Right => right.get(),
+                        };
+                    }
+                },
+                _ => return None,
+            }
+        }
+    }
+
+    /// A choice for each dimension that the context decides from `from` on and before `below`, the
+    /// dimension of the root: what is written on its side, and this diagram on the other.
+    fn guarded<const N: usize>(
+        &self,
+        alloc: Global,
+        within: &Context<N>,
+        from: Dim,
+        below: &Option<Dim>,
+        written: Diagram,
+    ) -> Result<Diagram, AllocError>
+        ensures ordered { length within.now.sides ≡ 64 * N → (IsBefore from below.now ⊎ (below.now ≡ Some from)) → IsBehind (64 * N) below.now self.now → IsBehind (64 * N) below.now written → IfOk result (IsOrdered (64 * N) from) }
+        ensures cells { (count : ℕ) → HasCells count self.now → HasCells count written → IfOk result (HasCells count) }
+        ensures writes { IfOk result (λ diagram. (change : CellEnd → CellEnd) → length within.now.sides ≡ 64 * N → ((stop : ℕ) → from ≤ stop → IsGapTo within.now stop below.now → IsWrite N within.now stop change (λ d. end_in d self.now) (λ d. end_in d written)) → IsWrite N within.now from change (λ d. end_in d self.now) (λ d. end_in d diagram)) }
+    {
+        match next_before(within, from, *below) {
+            None => Ok(written),
+            Some(decided) => {
+                let (dim, side) = decided;
+                let next = after(dim)?;
+                let written = self.guarded(alloc, within, next, below, written)?;
+                let kept = self.copied(alloc)?;
+                match side {
+                    Side::Left => Diagram::choice(alloc, dim, written, kept),
+                    Side::Right => Diagram::choice(alloc, dim, kept, written),
+                }
+            }
+        }
+    }
+
+    /// The diagram that is a link at each admitted decision, and what it was elsewhere. `from` is a
+    /// dimension below which every decision that is looked at agrees with the context.
+    pub(crate) fn bound<const N: usize>(
+        &self,
+        alloc: Global,
+        within: &Context<N>,
+        from: Dim,
+        to: CellId,
+    ) -> Result<Diagram, AllocError>
+        ensures cells { (count : ℕ) → to < count → HasCells count self.now → IfOk result (HasCells count) }
+        ensures writes { IsKept within.now → length within.now.sides ≡ 64 * N → IsOrdered (64 * N) from self.now → IfOk result (λ diagram. IsOrdered (64 * N) from diagram × IsWrite N within.now from (λ _. Same to) (λ d. end_in d self.now) (λ d. end_in d diagram)) }
+    {
+        match self {
+            Diagram::Choice(dim, left, right) => {
+                let dim = *dim;
+                let next = after(dim)?;
+                let left = left.get();
+                let right = right.get();
+                let written = match side_in(within, dim) {
+                    None => {
+                        let left = left.bound(alloc, within, next, to)?;
+                        let right = right.bound(alloc, within, next, to)?;
+                        Diagram::choice(alloc, dim, left, right)?
+                    }
+                    Some(Side::Left) => {
+                        let left = left.bound(alloc, within, next, to)?;
+                        Diagram::choice(alloc, dim, left, right.copied(alloc)?)?
+                    }
+                    Some(Side::Right) => {
+                        let right = right.bound(alloc, within, next, to)?;
+                        Diagram::choice(alloc, dim, left.copied(alloc)?, right)?
+                    }
+                };
+                self.guarded(alloc, within, from, &Some(dim), written)
+            }
+            _ => self.guarded(alloc, within, from, &None, Diagram::Link(to)),
+        }
+    }
+}

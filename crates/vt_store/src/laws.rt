@@ -1,0 +1,7 @@
+//! Facts about the definitions alone, each the contract of a function with no body.
+ghost use Rattle.vt_store.specs.Laws.{HaveMostGeneral};
+
+/// Cells of which none contains itself have a solution, and all solutions are instances of one.
+pub fn most_general_solution()
+    ensures { HaveMostGeneral }
+{}

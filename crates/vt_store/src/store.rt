@@ -1,0 +1,213 @@
+ghost use Rattle.std.specs.Prelude.{◌≡◌, ◌*◌, ◌+◌, ◌≤◌, ◌<◌, ◌^◌, ℕ, List, [], ◌∷◌, ◌++◌, length, map, None, IfSome, OnOk, OnErr, IfOk, IsOk, vec_len, vec_capacity};
+ghost use Rattle.std.specs.List.{All};
+ghost use Rattle.vt_dec.specs.declared.side.Side.{Side};
+ghost use Rattle.vt_dec.specs.Decisions.{Admits, IsSideOf};
+ghost use Rattle.vt_type.specs.Plain.{arity};
+ghost use Rattle.vt_store.specs.Ends.{IsAcyclic, AreArities, Reaches, Free, Made};
+ghost use Rattle.vt_store.specs.Writes.{IsOf};
+ghost use Rattle.vt_store.specs.Diagrams.{raised, HasRoom};
+ghost use Rattle.vt_store.specs.Views.{seen, LooksAs};
+ghost use Rattle.vt_store.specs.Stores.{ends_at, cell_count, IsUnchanged, Adds, IsBound, IsAppended, one_of, IsCellBranch, IsOneEnd};
+
+use crate::diagram::Diagram;
+use crate::{CellId, CellList, End, Look};
+use std::alloc::{AllocError, Global};
+use std::marker::Model;
+use vt_dec::{Context, Decision, Dim, Space};
+use vt_type::Head;
+
+/// Cells, each bound at each decision of a space to nothing, to another cell, or to a head over cells.
+#[derive(Debug, Drop)]
+pub struct Store<const N: usize> {
+    cells: Vec<Diagram>,
+    alloc: Global,
+    space: Space,
+}
+
+impl<const N: usize> Model for Store<N> {
+    ghost use Rattle.std.specs.Prelude.{◌-◌, vec_len, vec_capacity};
+    ghost use Rattle.std.specs.Coded.{codes};
+    ghost use Rattle.vt_store.specs.contracts.diagram.Diagram as shape;
+    ghost use Rattle.vt_store.specs.Stores.{Cells, IsStore};
+
+    ghost Value = { Cells };
+
+    ghost coded = { Prim.hlevel (codes, shape.the_row.coded) };
+
+    ghost view = { λ s. record { cells = s.cells.items; space = s.space; spare = vec_capacity s.cells - vec_len s.cells } };
+
+    ghost invariant = { λ s. IsStore N (record { cells = s.cells.items; space = s.space; spare = 0 }) };
+}
+
+impl<const N: usize> Store<N> {
+    /// A store with no cells. It takes no memory.
+    pub fn new(alloc: Global, space: Space) -> Store<N>
+        ensures empty { cell_count result ≡ 0 }
+        ensures space { result.space ≡ space }
+    {
+        Store {
+            cells: Vec::new(alloc),
+            alloc,
+            space,
+        }
+    }
+
+    pub fn space(&self) -> Space
+        ensures space { result ≡ self.now.space }
+        ensures acyclic { (decision : List Side) → IsOf N self.now.space decision → IsAcyclic (cell_count self.now) (ends_at self.now decision) }
+        ensures arities { (decision : List Side) → IsOf N self.now.space decision → AreArities (cell_count self.now) (ends_at self.now decision) }
+    {
+        self.space
+    }
+
+    /// The allocator that the store keeps.
+    pub fn allocator(&self) -> Global {
+        self.alloc
+    }
+
+    /// Makes room for so many more cells.
+    pub fn reserve(&mut self, cells: usize) -> Result<(), AllocError>
+        ensures spare { OnOk result (cells ≤ self.new.spare) }
+        ensures unchanged { IsUnchanged self.old self.new }
+    {
+        self.cells.reserve(cells)
+    }
+
+    /// A new cell that is open at every decision. It cannot fail where room is spare. On an error
+    /// nothing has changed.
+    pub fn fresh(&mut self) -> Result<CellId, AllocError>
+        ensures ok { IfOk result (λ cell. (cell ≡ cell_count self.old) × Adds (λ _. Free) self.old self.new) }
+        ensures spare { 0 < self.old.spare → IsOk result × (self.new.spare + 1 ≡ self.old.spare) }
+        ensures err { OnErr result (self.new ≡ self.old) }
+    {
+        let cell = CellId(self.cells.len());
+        push(&mut self.cells, Diagram::Open)?;
+        Ok(cell)
+    }
+
+    /// A new cell that is bound to the head over these children at every decision. On an error
+    /// nothing has changed.
+    pub fn con(&mut self, head: Head, kids: &[CellId]) -> Result<CellId, AllocError>
+        requires arity { length kids.now ≡ arity head }
+        requires kids { All (λ kid. kid < cell_count self.old) kids.now }
+        ensures ok { IfOk result (λ cell. (cell ≡ cell_count self.old) × Adds (λ _. Made head kids.now) self.old self.new) }
+        ensures err { OnErr result (self.new ≡ self.old) }
+    {
+        let cell = CellId(self.cells.len());
+        let kids = CellList::new(Vec::from_slice(self.alloc, kids)?);
+        push(&mut self.cells, Diagram::Con(head, kids))?;
+        Ok(cell)
+    }
+
+    /// A new cell that is bound to one of two by the side of the dimension. On an error nothing has
+    /// changed.
+    pub fn choice(&mut self, dim: Dim, left: CellId, right: CellId) -> Result<CellId, AllocError>
+        requires dim { dim < 64 * N }
+        requires left { left < cell_count self.old }
+        requires right { right < cell_count self.old }
+        ensures ok { IfOk result (λ cell. (cell ≡ cell_count self.old) × Adds (one_of dim left right) self.old self.new) }
+        ensures err { OnErr result (self.new ≡ self.old) }
+    {
+        let cell = CellId(self.cells.len());
+        let (left, right) = (Diagram::Link(left), Diagram::Link(right));
+        let diagram = Diagram::choice(self.alloc, dim, left, right)?;
+        push(&mut self.cells, diagram)?;
+        Ok(cell)
+    }
+
+    /// Binds an open cell to another one in a context. In the whole context of a cell that is open
+    /// everywhere this writes one link; else it adds as few choices as describe the context. On an
+    /// error nothing has changed.
+    pub fn bind(&mut self, cell: CellId, within: &Context<N>, to: CellId) -> Result<(), AllocError>
+        requires cell { cell < cell_count self.old }
+        requires to { to < cell_count self.old }
+        requires space { within.now.space ≡ self.old.space }
+        requires free { (decision : List Side) → Admits within.now decision → ends_at self.old decision cell ≡ Free }
+        requires apart { (decision : List Side) → Admits within.now decision → Reaches (ends_at self.old decision) to cell → ⊥ }
+        ensures ok { OnOk result (IsBound N within.now cell to self.old self.new) }
+        ensures err { OnErr result (self.new ≡ self.old) }
+    {
+        // What it ensures of the context is what `bound` needs to know.
+        let _space = within.space();
+        let bound = self.cells[cell.0].bound(self.alloc, within, Dim(0), to)?;
+        self.cells[cell.0] = bound;
+        Ok(())
+    }
+
+    /// What the cell itself is bound to at a decision, with no link followed.
+    pub fn end(&self, cell: CellId, decision: &Decision<N>) -> End<'_>
+        requires cell { cell < cell_count self.now }
+        requires decision { IsOf N self.now.space decision.now }
+        ensures { seen result ≡ ends_at self.now decision.now cell }
+    {
+        self.cells[cell.0].at(decision)
+    }
+
+    /// Adds the cells of another store after the old ones, in order, and answers the former number of
+    /// cells, by which the number of each added cell is raised. On an error nothing has changed.
+    pub fn append(&mut self, other: &Store<N>) -> Result<usize, AllocError>
+        requires { other.now.space ≡ self.old.space }
+        ensures ok { IfOk result (λ by. (by ≡ cell_count self.old) × IsAppended self.old other.now self.new) }
+        ensures err { OnErr result (IsUnchanged self.old self.new) }
+    {
+        let by = self.cells.len();
+        let mut copies = raised_copies(self.alloc, &other.cells, by)?;
+        self.cells.append(&mut copies)?;
+        Ok(by)
+    }
+
+    /// What a cell is bound to at a decision, once links are followed.
+    pub fn look(&self, cell: CellId, decision: &Decision<N>) -> Look<'_>
+        requires cell { cell < cell_count self.now }
+        requires decision { IsOf N self.now.space decision.now }
+        ensures { LooksAs (ends_at self.now decision.now) cell result }
+    {
+        // What it ensures of the store is what makes the loop end.
+        let _space = self.space();
+        let mut last = cell;
+        'links: loop {
+            match self.end(last, decision) {
+                End::Open => return Look::Open(last),
+                End::Con(head, kids) => return Look::Con(head, kids),
+                End::Link(next) => last = next,
+            }
+        }
+    }
+
+    /// The least dimension on which the cell's own diagram branches within the context. Where there
+    /// is none, the cell has one end at all admitted decisions.
+    pub fn splits(&self, cell: CellId, within: &Context<N>) -> Option<Dim>
+        requires cell { cell < cell_count self.now }
+        requires space { within.now.space ≡ self.now.space }
+        ensures least { IsCellBranch self.now cell within.now result }
+        ensures both { IfSome result (λ dim. (dim < 64 * N) × IsSideOf within.now dim None) }
+        ensures alike { result ≡ None → IsOneEnd self.now cell within.now }
+    {
+        self.cells[cell.0].branch(within)
+    }
+}
+
+/// Adds a diagram, in the room that is spare if there is any.
+fn push(cells: &mut Vec<Diagram>, diagram: Diagram) -> Result<(), AllocError>
+    ensures ok { OnOk result ((cells.new.items ≡ cells.old.items ++ diagram ∷ []) × (vec_len cells.new ≡ vec_len cells.old + 1)) }
+    ensures spare { vec_len cells.old < vec_capacity cells.old → IsOk result × (vec_capacity cells.new ≡ vec_capacity cells.old) }
+    ensures err { OnErr result ((cells.new.items ≡ cells.old.items) × (vec_len cells.new ≡ vec_len cells.old) × (vec_capacity cells.new ≡ vec_capacity cells.old)) }
+{
+    if cells.capacity() <= cells.len() {
+        cells.reserve(1)?;
+    }
+    cells.push_reserved(diagram);
+    Ok(())
+}
+
+/// The diagrams with every cell's number raised.
+fn raised_copies(alloc: Global, diagrams: &[Diagram], by: usize) -> Result<Vec<Diagram>, AllocError>
+    requires { All (HasRoom by) diagrams.now }
+    ensures { IfOk result (λ copies. copies.items ≡ map (raised by) diagrams.now) }
+{
+    let mut copies = Vec::with_capacity(alloc, diagrams.len())?;
+    for diagram in diagrams {
+        copies.push(diagram.raised(alloc, by)?)?;
+    }
+    Ok(copies)
+}
