@@ -11,3 +11,4 @@ pub mod StepByStep
 pub mod NormalPlaces
 pub mod Numbered
 pub mod ReadBack
+pub mod PlainTexts

@@ -1,4 +1,4 @@
-use Rattle.std.proofs.Common.{◌≡◌, ◌⊎◌, ℕ, zero, suc, ◌+◌, ◌<◌, List, [], ◌∷◌, ◌++◌, length, slice_get, slice_set, Option, Some, None, IfSome, refl, sym, ap, subst, ◌∙◌, arith, inl, inr, add-zero, zero-add}
+use Rattle.std.proofs.Common.{◌≡◌, ◌⊎◌, ℕ, zero, suc, ◌+◌, ◌<◌, List, [], ◌∷◌, ◌++◌, length, slice_get, slice_set, Option, Some, None, refl, sym, ap, subst, ◌∙◌, arith, inl, inr, add-zero, zero-add}
 use Rattle.std.specs.Map.{lookup}
 use Rattle.std.specs.Str.{bytes_eq}
 use Rattle.std.proofs.lemmas.Option.{none-some, same_Some, slice_get_within, slice_get_cases}
@@ -12,10 +12,10 @@ use Rattle.vt_type.specs.declared.plain.PlainKids.{PlainKids}
 use Rattle.vt_type.specs.declared.plain.PlainKids as plain_kids
 use Rattle.vt_type.specs.declared.vtype.VType.{VType, Var, Con, Err}
 use Rattle.vt_type.specs.declared.vtype.VKids.{VKids, Nil}
-use Rattle.vt_type.specs.Plain.{kids_of, kid_count, arity, IsWellFormed, AreWellFormed}
+use Rattle.vt_type.specs.Plain.{kids_of, kid_count, IsWellFormed, AreWellFormed}
 use Rattle.vt_type.specs.Variational.{vkids_of, choice, vkid_count, by_side, IsWellFormedV, AreWellFormedV}
 use Rattle.vt_type.specs.Canonical.{occurrences, kids_occurrences}
-use Rattle.vt_type.specs.NormalForm.{Map, Decisions, Taking, Root, Made, Named, Wrong, root, HasRoot, kid_at, Kid, IsNormalForm, AreNormalForms}
+use Rattle.vt_type.specs.NormalForm.{Map, Decisions, Taking, Made, Named, Wrong, root, kid_at, Kid, IsNormalForm, AreNormalForms}
 use Rattle.vt_type.proofs.Firsts.{or_later, lookup-append}
 use Rattle.vt_show.specs.Reading.{places, kids_places}
 
@@ -237,11 +237,12 @@ mutual
       (sym made.2 ∙ outcome.0, kids_normal-well_formed kids 0 map set long well some h.1)
   normal-well_formed (choice dim left right) map set long well some h =
       let depends = h.0.0 in
-      let within = slice_get_within depends.0 dim Left depends.1 in
-      (omega (arith, within, long depends.0 depends.2),
-      normal-well_formed left map (Taking set dim Left) (Taking-long set dim Left long) (λ decision s. well decision s.0) (depends.0, (depends.2, depends.1)) h.1,
-      normal-well_formed right map (Taking set dim Right) (Taking-long set dim Right long) (λ decision s. well decision s.0)
-      (slice_set depends.0 dim Right, (depends.3, slice_get-set_same depends.0 dim Left Right depends.1)) h.2)
+      let within = slice_get_within depends.0 dim Left depends.1 in (
+        omega (arith, within, long depends.0 depends.2),
+        normal-well_formed left map (Taking set dim Left) (Taking-long set dim Left long) (λ decision s. well decision s.0) (depends.0, (depends.2, depends.1)) h.1,
+        normal-well_formed right map (Taking set dim Right) (Taking-long set dim Right long) (λ decision s. well decision s.0)
+            (slice_set depends.0 dim Right, (depends.3, slice_get-set_same depends.0 dim Left Right depends.1)) h.2,
+      )
   normal-well_formed Err map set long well some h = tt
 
   kids_normal-well_formed : (kids : VKids) (n : ℕ) (map : Map) (set : Decisions) → AreLong set → AreOutcomesWellFormed map set → ((decision : List Side) × set decision) → AreNormalForms kids n map set → AreWellFormedV kids

@@ -1,5 +1,5 @@
-use Rattle.std.proofs.Common.{◌≡◌, ◌⊎◌, ℕ, zero, suc, ◌+◌, ◌<◌, Bool, true, false, not, ◌||◌, nat_lt, List, [], ◌∷◌, ◌++◌, map, length, get_or, slice_get, position, unwrap_or, codes, filter, Option, Some, None, refl, sym, ap, subst, ◌∙◌, arith, inl, inr}
-use Rattle.std.specs.List.{list_any, position_or_len}
+use Rattle.std.proofs.Common.{◌≡◌, ℕ, zero, suc, ◌<◌, Bool, true, false, not, nat_lt, List, [], ◌∷◌, ◌++◌, length, get_or, slice_get, position, unwrap_or, codes, Some, refl, sym, ◌∙◌, arith, inl, inr}
+use Rattle.std.specs.List.{list_any}
 use Rattle.std.specs.Str.{bytes_eq}
 use Rattle.std.proofs.lemmas.Bool.{cases_Bool, false≢true}
 use Rattle.std.proofs.lemmas.List.Quantifiers.{position-Some}
@@ -9,7 +9,7 @@ use Rattle.std.proofs.lemmas.Slice.Eq.{bytes_eq-Decides}
 use Rattle.vt_type.specs.declared.head.Head.TheVariants.{Int, Bool as Truth, Text, List as ListOf, Pair, Fun, Data}
 use Rattle.vt_type.specs.declared.vtype.VType.{VType, Var, Con, Err}
 use Rattle.vt_type.specs.declared.vtype.VKids.{VKids, Nil}
-use Rattle.vt_type.specs.Variational.{vkids_of, choice, vkid_count, IsWellFormedV}
+use Rattle.vt_type.specs.Variational.{vkids_of, choice, IsWellFormedV}
 use Rattle.vt_type.specs.Text.{variables, kids_variables, distinct, letter, wrapped, shown}
 use Rattle.vt_show.specs.Conditions.{DimsBelow, HasNoData}
 use Rattle.vt_show.specs.Reading.{Spells, int, bool, string, error, variable, list, parentheses, either, pair, one_atom, arrow, no_arrow, renamed, by_first_place}

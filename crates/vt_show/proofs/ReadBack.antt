@@ -1,4 +1,4 @@
-use Rattle.std.proofs.Common.{◌≡◌, ℕ, ◌+◌, ◌<◌, ◌≤◌, List, [], ◌∷◌, length, replicate, unwrap_or, is_some, IsSome, Option, Some, None, IfSome, refl, sym, ap, ◌∙◌, lit<, true≢false}
+use Rattle.std.proofs.Common.{◌≡◌, ℕ, List, [], length, replicate, unwrap_or, is_some, IsSome, Option, Some, None, refl, sym, ap, ◌∙◌, lit<, true≢false}
 use Rattle.std.specs.Map.{lookup}
 use Rattle.std.specs.Str.{bytes_eq}
 use Rattle.std.proofs.lemmas.List.{length-replicate}
@@ -7,18 +7,16 @@ use Rattle.vt_dec.specs.declared.side.Side.TheVariants.{Left}
 use Rattle.vt_type.specs.declared.plain.Plain.{Plain}
 use Rattle.vt_type.specs.declared.plain.Plain as plain
 use Rattle.vt_type.specs.declared.vtype.VType.{VType}
-use Rattle.vt_type.specs.Plain.{IsWellFormed}
 use Rattle.vt_type.specs.Canonical.{occurrences, first_path, IsCanonical}
-use Rattle.vt_type.specs.Variational.{selected}
 use Rattle.vt_type.specs.NormalForm.{map_of, Total, IsNormalFormOf}
 use Rattle.vt_type.specs.Text.{text_of, variables, distinct}
 use Rattle.vt_type.proofs.Renaming.{agree-substituted}
 use Rattle.vt_show.specs.Places.{first_name}
 use Rattle.vt_show.specs.Conditions.{DimsBelow, HasNoData}
 use Rattle.vt_show.specs.Reading.{places, renamed, by_first_place, IsRead}
-use Rattle.vt_show.specs.Laws.{IsCanonicalEverywhere, NormalFormsAreReadBack}
+use Rattle.vt_show.specs.Laws.{IsCanonicalEverywhere}
 use Rattle.vt_show.proofs.Renamings.{IsFound, each_found, each_weaker, names_of_places, renamed-same}
-use Rattle.vt_show.proofs.NormalPlaces.{IsFunction, places_at, places_of_outcome, first_at_decision, normal-well_formed}
+use Rattle.vt_show.proofs.NormalPlaces.{IsFunction, places_of_outcome, first_at_decision, normal-well_formed}
 use Rattle.vt_show.proofs.Numbered.{numbered, shown-spelled, by_first_place-numbered}
 
 -- The text of a normal form is read as that normal form.

@@ -1,19 +1,15 @@
-use Rattle.std.proofs.Common.{◌≡◌, ◌⊎◌, ℕ, zero, suc, ◌+◌, ◌<◌, ◌≤◌, List, [], ◌∷◌, ◌++◌, take, drop, length, position, slice_get, refl, ap, sym, subst, ◌∙◌, append_assoc, take-append-drop, codes, Option, Some, None, inl, inr}
-use Rattle.std.specs.Str.{bytes_eq}
+use Rattle.std.proofs.Common.{◌≡◌, ◌⊎◌, ℕ, zero, suc, List, [], ◌∷◌, ◌++◌, take, drop, length, refl, ap, sym, subst, ◌∙◌, append_assoc, take-append-drop, codes, Option, Some, None, inl, inr}
 use Rattle.std.proofs.lemmas.List.{append-nil}
-use Rattle.std.proofs.lemmas.Option.{same_Some, none-some, option_and_then_some, slice_get_within}
-use Rattle.vt_type.specs.declared.head.Head.{Head}
+use Rattle.std.proofs.lemmas.Option.{same_Some, none-some, option_and_then_some}
 use Rattle.vt_type.specs.declared.head.Head.TheVariants.{Int, Bool as Truth, Text, List as ListOf, Pair, Fun}
 use Rattle.vt_type.specs.declared.vtype.VType.{VType, Var, Con, Err}
 use Rattle.vt_type.specs.declared.vtype.VKids.{Nil}
-use Rattle.vt_type.specs.Variational.{choice, IsWellFormedV}
-use Rattle.vt_type.specs.Names.{AreDistinct}
-use Rattle.vt_show.specs.Reading.{Spells, int, bool, string, error, variable, list, parentheses, either, pair, one_atom, arrow, no_arrow, by_first_place, IsRead, IsReading, LackBraces}
+use Rattle.vt_type.specs.Variational.{choice}
+use Rattle.vt_show.specs.Reading.{Spells, int, bool, string, error, variable, list, parentheses, either, pair, one_atom, arrow, no_arrow}
 use Rattle.vt_show.specs.Steps.{Step, or_else, after, dim_at, letter_length, letter_at, word_at, one, two, list_with, inside_with, choice_with, atom_with, pair_with, arrow_with, type_at, at_end, type_of}
 use Rattle.vt_show.proofs.Signs.{option_map_some, after-read, dim_at-read}
 use Rattle.vt_show.proofs.LetterTexts.{letter_length-read}
-use Rattle.vt_show.proofs.Renamings.{renamed-well_formed}
-use Rattle.vt_show.proofs.SpelledIsRead.{lettered, type_of-spelled, by_first_place-lettered}
+use Rattle.vt_show.proofs.SpelledIsRead.{lettered}
 
 -- What is read from a text is spelled by it.
 

@@ -1,12 +1,12 @@
-use Rattle.std.proofs.Common.{◌≡◌, ℕ, ◌<◌, ◌≤◌, List, length, slice_get, refl, sym, subst, ap, ◌∙◌, arith, Option, Some, None}
-use Rattle.std.specs.Option.{option_map}
+use Rattle.std.proofs.Common.{◌≡◌, ℕ, ◌≤◌, List, length, refl, sym, subst, ap, ◌∙◌, arith, Option, Some, None}
 use Rattle.std.proofs.lemmas.Option.{none-some, slice_get_within}
 use Rattle.vt_type.specs.declared.vtype.VType.{VType}
 use Rattle.vt_type.specs.Variational.{IsWellFormedV}
 use Rattle.vt_type.specs.Names.{AreDistinct}
-use Rattle.vt_show.specs.Reading.{Spells, int, bool, string, error, variable, list, parentheses, either, pair, one_atom, arrow, no_arrow, by_first_place, IsRead, IsReading, LackBraces}
+use Rattle.vt_show.specs.Conditions.{DimsBelow}
+use Rattle.vt_show.specs.Reading.{Spells, int, bool, string, error, variable, list, parentheses, either, pair, one_atom, arrow, no_arrow, by_first_place, IsReading, LackBraces}
 use Rattle.vt_show.specs.Steps.{type_of}
-use Rattle.vt_show.proofs.Renamings.{renamed-well_formed}
+use Rattle.vt_show.proofs.Renamings.{renamed-well_formed, renamed-dims}
 use Rattle.vt_show.proofs.SpelledIsRead.{letter_name, lettered, type_of-spelled, by_first_place-lettered, one_type}
 use Rattle.vt_show.proofs.ReadIsSpelled.{type_of-read}
 
@@ -51,3 +51,25 @@ module _ (dims : List (List ℕ)) (few : length dims ≤ 64) where
   type_of-well_formed text found h =
       let read = type_of-read dims text found h in
       subst IsWellFormedV (sym read.2) (renamed-well_formed letter_name read.0 (spelled-well_formed 0 text read.0 read.1))
+
+-- what is spelled has dimensions that have names
+module _ (dims : List (List ℕ)) where
+  spelled-dims : (level : ℕ) (text : List ℕ) (type : VType) → Spells dims level text type → DimsBelow (length dims) type
+  spelled-dims _ _ _ int = tt
+  spelled-dims _ _ _ bool = tt
+  spelled-dims _ _ _ string = tt
+  spelled-dims _ _ _ error = tt
+  spelled-dims _ _ _ (variable n) = tt
+  spelled-dims _ _ _ (list text item h) = (spelled-dims 0 text item h, tt)
+  spelled-dims _ _ _ (parentheses text type h) = spelled-dims 0 text type h
+  spelled-dims _ _ _ (either dim name left right one other at h k) =
+      (slice_get_within dims dim name at, spelled-dims 0 left one h, spelled-dims 0 right other k)
+  spelled-dims _ _ _ (pair left right one other h k) = (spelled-dims 2 left one h, (spelled-dims 2 right other k, tt))
+  spelled-dims _ _ _ (one_atom text type h) = spelled-dims 2 text type h
+  spelled-dims _ _ _ (arrow left right from to h k) = (spelled-dims 1 left from h, (spelled-dims 0 right to k, tt))
+  spelled-dims _ _ _ (no_arrow text type h) = spelled-dims 1 text type h
+
+  pub type_of-dims : (text : List ℕ) (found : VType) → type_of dims text ≡ Some found → DimsBelow (length dims) found
+  type_of-dims text found h =
+      let read = type_of-read dims text found h in
+      subst (DimsBelow (length dims)) (sym read.2) (renamed-dims letter_name (length dims) read.0 (spelled-dims 0 text read.0 read.1))

@@ -1,4 +1,4 @@
-use Rattle.std.proofs.Common.{◌≡◌, ℕ, ◌+◌, Bool, true, false, cond, List, [], ◌∷◌, ◌++◌, map, unwrap_or, IsSome, Option, Some, None, refl, sym, ap, ◌∙◌, arith, true≢false, inl, inr}
+use Rattle.std.proofs.Common.{◌≡◌, ℕ, ◌+◌, cond, List, [], ◌∷◌, ◌++◌, map, unwrap_or, IsSome, Option, Some, None, refl, sym, ap, ◌∙◌, true≢false, inl, inr}
 use Rattle.std.specs.Bool.{one_answer}
 use Rattle.std.specs.Map.{lookup}
 use Rattle.std.specs.Str.{bytes_eq}
@@ -8,6 +8,7 @@ use Rattle.std.proofs.lemmas.Slice.Eq.{bytes_eq-Decides}
 use Rattle.vt_type.specs.declared.vtype.VType.{VType, Var, Con, Err}
 use Rattle.vt_type.specs.declared.vtype.VKids.{VKids, Nil}
 use Rattle.vt_type.specs.Variational.{vkids_of, choice, vkid_count, IsWellFormedV, AreWellFormedV}
+use Rattle.vt_show.specs.Conditions.{DimsBelow, KidsDimsBelow}
 use Rattle.vt_show.specs.Reading.{places, kids_places, renamed, kids_renamed, by_first_place}
 
 -- Types under other names.
@@ -137,6 +138,18 @@ mutual
   kid_count-renamed : (f : List ℕ → List ℕ) (kids : VKids) → vkid_count (kids_renamed f kids) ≡ vkid_count kids
   kid_count-renamed f Nil = refl
   kid_count-renamed f (vkids_of kid kids) = ap (λ n. 1 + n) (kid_count-renamed f kids)
+
+-- a renamed type has the same dimensions
+mutual
+  pub renamed-dims : (f : List ℕ → List ℕ) (n : ℕ) (type : VType) → DimsBelow n type → DimsBelow n (renamed f type)
+  renamed-dims f n (Var name) h = tt
+  renamed-dims f n (Con top kids) h = kids_renamed-dims f n kids h
+  renamed-dims f n (choice dim left right) h = (h.0, renamed-dims f n left h.1, renamed-dims f n right h.2)
+  renamed-dims f n Err h = tt
+
+  kids_renamed-dims : (f : List ℕ → List ℕ) (n : ℕ) (kids : VKids) → KidsDimsBelow n kids → KidsDimsBelow n (kids_renamed f kids)
+  kids_renamed-dims f n Nil h = tt
+  kids_renamed-dims f n (vkids_of kid kids) h = (renamed-dims f n kid h.0, kids_renamed-dims f n kids h.1)
 
 -- the places of a renamed type
 abbrev renamed_place : (List ℕ → List ℕ) → List ℕ × List ℕ → List ℕ × List ℕ

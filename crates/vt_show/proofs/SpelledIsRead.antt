@@ -1,14 +1,11 @@
-use Rattle.std.proofs.Common.{◌≡◌, ℕ, zero, suc, ◌+◌, ◌<◌, ◌≤◌, Bool, true, false, List, [], ◌∷◌, ◌++◌, take, drop, length, position, Contains, slice_get, refl, ap, sym, ◌∙◌, arith, append_assoc, length-append, codes, Option, Some, None}
-use Rattle.std.specs.List.{All}
-use Rattle.std.specs.Str.{bytes_eq}
+use Rattle.std.proofs.Common.{◌≡◌, ℕ, zero, suc, ◌≤◌, List, [], ◌∷◌, ◌++◌, length, Contains, slice_get, refl, ap, sym, ◌∙◌, arith, append_assoc, length-append, codes, Some, None}
 use Rattle.std.proofs.lemmas.List.{take_at, drop_at, append-nil}
 use Rattle.std.proofs.lemmas.Option.{same_Some, slice_get_within, get_or_from_slice_get}
-use Rattle.vt_type.specs.declared.vtype.VType.{VType, Var, Con, Err}
-use Rattle.vt_type.specs.Variational.{vkids_of, choice}
+use Rattle.vt_type.specs.declared.vtype.VType.{VType, Var}
 use Rattle.vt_type.specs.Names.{AreDistinct}
 use Rattle.vt_type.specs.Text.{letter}
 use Rattle.vt_show.specs.Reading.{Spells, int, bool, string, error, variable, list, parentheses, either, pair, one_atom, arrow, no_arrow, renamed, by_first_place, LackBraces}
-use Rattle.vt_show.specs.Steps.{Step, after, name_at, letter_length, letter_at, atom_with, pair_with, arrow_with, type_at, type_of}
+use Rattle.vt_show.specs.Steps.{Step, after, letter_at, atom_with, pair_with, arrow_with, type_at, type_of}
 use Rattle.vt_show.proofs.Signs.{dim_at-front}
 use Rattle.vt_show.proofs.LetterTexts.{EndsLetter, letter_length-front, number_name, number_name-letter}
 use Rattle.vt_show.proofs.Renamings.{EachName, renamed-renamed, renamed-same, by_first_place-renamed}

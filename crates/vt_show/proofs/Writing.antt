@@ -1,4 +1,4 @@
-use Rattle.std.proofs.Common.{◌≡◌, ℕ, ◌+◌, ◌<◌, List, [], ◌++◌, length, slice_get, codes, unwrap_or, Option, Some, None, IsSome, refl, ap, subst, sym, ◌∙◌, arith, append_assoc, inl, inr}
+use Rattle.std.proofs.Common.{◌≡◌, ℕ, ◌<◌, List, [], ◌++◌, length, slice_get, codes, unwrap_or, Option, Some, None, IsSome, refl, ap, subst, sym, ◌∙◌, arith, append_assoc, inl, inr}
 use Rattle.std.specs.Option.{option_map}
 use Rattle.std.proofs.lemmas.Option.{slice_get_cases, none-some}
 use Rattle.vt_type.specs.declared.head.Head.{Head}

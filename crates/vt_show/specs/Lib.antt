@@ -5,3 +5,4 @@ pub mod Places
 pub mod Conditions
 pub mod Levels
 pub mod Laws
+pub mod Pairs

@@ -1,6 +1,7 @@
 //! Types read from their texts.
 ghost use Rattle.std.specs.Prelude.{◌≤◌, length, IfOk, IfSome};
 ghost use Rattle.vt_type.specs.Variational.{IsWellFormedV};
+ghost use Rattle.vt_show.specs.Conditions.{DimsBelow};
 ghost use Rattle.vt_show.specs.Reading.{IsReading, LackBraces};
 
 use crate::first_places::by_first_place;
@@ -12,9 +13,10 @@ use vt_type::{Tables, VType};
 /// named by the path of its first appearance.
 pub fn read_type(alloc: Global, text: &str, tables: &Tables) -> Result<Option<VType>, AllocError>
     requires few { length tables.now.dims ≤ 64 }
-    requires named { LackBraces tables.now.dims }
+    requires no_brace { LackBraces tables.now.dims }
     ensures read { IfOk result (λ read. IsReading tables.now.dims text.now read) }
     ensures well_formed { IfOk result (λ read. IfSome read IsWellFormedV) }
+    ensures named { IfOk result (λ read. IfSome read (DimsBelow (length tables.now.dims))) }
 {
     // That the names differ is what makes the reading the only one.
     let _count = tables.dims.len();

@@ -1,17 +1,21 @@
 //! The texts of types.
 ghost use Rattle.std.specs.Prelude.{◌≡◌, length, IfOk};
 ghost use Rattle.std.specs.String.{string_bytes};
+ghost use Rattle.vt_type.specs.Plain.{IsWellFormed};
 ghost use Rattle.vt_type.specs.Variational.{IsWellFormedV};
 ghost use Rattle.vt_type.specs.Text.{text_of};
 ghost use Rattle.vt_show.specs.Conditions.{DimsBelow};
+ghost use Rattle.vt_show.specs.Pairs.{pair_text};
 
 use crate::letters::{Letters, meet_all};
 use crate::level::Level;
-use crate::writer::write_type;
+use crate::variational::variational;
+use crate::writer::{push, write_type};
 use std::alloc::{AllocError, Global};
-use vt_type::{Tables, VType};
+use vt_type::{ChangeLine, Tables, VType};
 
-/// The text of a type, with its variables as letters in the order in which they appear.
+/// The text of a type, with its variables as letters in the order in which they appear. A declared
+/// type is not shown yet.
 pub fn show_type(alloc: Global, vtype: &VType, tables: &Tables) -> Result<String, AllocError>
     requires well_formed { IsWellFormedV vtype.now }
     requires named { DimsBelow (length tables.now.dims) vtype.now }
@@ -21,5 +25,24 @@ pub fn show_type(alloc: Global, vtype: &VType, tables: &Tables) -> Result<String
     meet_all(vtype, alloc, &mut letters)?;
     let mut text = String::new(alloc);
     write_type(vtype, &tables.dims, &letters, Level::Anywhere, &mut text)?;
+    Ok(text)
+}
+
+/// The text of the two types of a change, with letters over both.
+pub fn show_pair(alloc: Global, pair: &ChangeLine, tables: &Tables) -> Result<String, AllocError>
+    requires wanted { IsWellFormed pair.now.wanted }
+    requires outcome { IsWellFormed pair.now.result }
+    ensures { IfOk result (λ text. string_bytes text ≡ pair_text pair.now.wanted pair.now.result) }
+{
+    let wanted = variational(&pair.wanted, alloc)?;
+    let outcome = variational(&pair.result, alloc)?;
+    let mut letters = Letters::new(alloc);
+    meet_all(&wanted, alloc, &mut letters)?;
+    meet_all(&outcome, alloc, &mut letters)?;
+    let mut text = String::new(alloc);
+    push(&mut text, "wants ")?;
+    write_type(&wanted, &tables.dims, &letters, Level::Anywhere, &mut text)?;
+    push(&mut text, ", result ")?;
+    write_type(&outcome, &tables.dims, &letters, Level::Anywhere, &mut text)?;
     Ok(text)
 }

@@ -183,7 +183,8 @@ fn push_if(needed: bool, text: &str, out: &mut String) -> Result<(), AllocError>
     Ok(())
 }
 
-fn push(out: &mut String, text: &str) -> Result<(), AllocError>
+/// Puts a text at the end.
+pub fn push(out: &mut String, text: &str) -> Result<(), AllocError>
     ensures { OnOk result (string_bytes out.new ≡ string_bytes out.old ++ text.now) }
 {
     out.push_str(text)

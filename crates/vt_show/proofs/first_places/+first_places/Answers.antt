@@ -1,4 +1,4 @@
-use Rattle.std.proofs.Common.{◌≡◌, ◌+◌, ◌<◌, ◌∙◌, rules, ap, arith}
+use Rattle.std.proofs.Common.{◌≡◌, ◌∙◌, rules, ap, arith}
 use Rattle.std.proofs.lemmas.Grind.{common_steps}
 use Rattle.std.proofs.lemmas.Result.{IfOk-weaker}
 use Rattle.vt_type.specs.declared.vtype.VType.{Con, the_lemmas}

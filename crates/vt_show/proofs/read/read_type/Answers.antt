@@ -1,9 +1,7 @@
-use Rattle.std.proofs.Common.{◌≡◌, Some, None}
 use Rattle.vt_show.specs.Places.{first_name}
 use Rattle.vt_show.specs.Reading.{places}
-use Rattle.vt_show.specs.Steps.{type_of}
-use Rattle.vt_show.proofs.Readings.{reading_of-some, reading_of-none, type_of-well_formed}
-use Rattle.vt_show.proofs.Renamings.{renamed-well_formed}
+use Rattle.vt_show.proofs.Readings.{reading_of-some, reading_of-none, type_of-well_formed, type_of-dims}
+use Rattle.vt_show.proofs.Renamings.{renamed-well_formed, renamed-dims}
 use Rattle.vt_show.proofs.read.read_type.Goals as goal
 
 pub by_first_place-requires : goal.by_first_place-requires
@@ -16,7 +14,7 @@ pub returns-in_ok-by_first_place-in-Ok-clause-read :
 returns-in_ok-by_first_place-in-Ok-clause-read c =
     let read = rw c.as_bytes.ensures.value at c.in-Ok.ensures in
     rw c.in_ok-by_first_place-in-Ok.ensures
-    (reading_of-some c.args.tables.now.dims c.len-count.ensures.distinct c.requires.named c.args.text.now c.in-Ok.lettered read)
+    (reading_of-some c.args.tables.now.dims c.len-count.ensures.distinct c.requires.no_brace c.args.text.now c.in-Ok.lettered read)
 
 pub returns-in_ok-by_first_place-in-Ok-clause-well_formed :
     goal.returns-in_ok-by_first_place-in-Ok-clause-well_formed
@@ -25,7 +23,14 @@ returns-in_ok-by_first_place-in-Ok-clause-well_formed c =
     rw c.in_ok-by_first_place-in-Ok.ensures
     (renamed-well_formed (first_name (places _ c.in-Ok.lettered)) c.in-Ok.lettered (type_of-well_formed c.args.tables.now.dims c.requires.few c.args.text.now c.in-Ok.lettered read))
 
+pub returns-in_ok-by_first_place-in-Ok-clause-named :
+    goal.returns-in_ok-by_first_place-in-Ok-clause-named
+returns-in_ok-by_first_place-in-Ok-clause-named c =
+    let read = rw c.as_bytes.ensures.value at c.in-Ok.ensures in
+    rw c.in_ok-by_first_place-in-Ok.ensures
+    (renamed-dims (first_name (places _ c.in-Ok.lettered)) _ c.in-Ok.lettered (type_of-dims c.args.tables.now.dims c.args.text.now c.in-Ok.lettered read))
+
 pub returns-in-Err-NotSpelled-clause-read : goal.returns-in-Err-NotSpelled-clause-read
 returns-in-Err-NotSpelled-clause-read c =
     let unread = rw (c.in-Err-NotSpelled.field-0-is, c.as_bytes.ensures.value) at c.in-Err-NotSpelled.ensures in
-    reading_of-none c.args.tables.now.dims c.len-count.ensures.distinct c.requires.named c.args.text.now unread
+    reading_of-none c.args.tables.now.dims c.len-count.ensures.distinct c.requires.no_brace c.args.text.now unread

@@ -1,4 +1,4 @@
-use Rattle.std.proofs.Common.{◌≡◌, ◌+◌, ◌<◌, ◌≤◌, length, codes, Some, refl, sym, ap, ◌∙◌, arith}
+use Rattle.std.proofs.Common.{◌<◌, length, arith}
 use Rattle.std.proofs.lemmas.Result.{err_from_is_err_and}
 use Rattle.vt_show.specs.Steps.{type_at}
 use Rattle.vt_show.proofs.StepByStep.{atom_choice, list_miss, inside_miss, left_miss, right_miss, pair_miss, pair_alone, pair_both, pair_right_miss, arrow_miss, arrow_alone, arrow_both, arrow_right_miss}

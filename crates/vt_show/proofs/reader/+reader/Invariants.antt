@@ -1,4 +1,4 @@
-use Rattle.std.proofs.Common.{ℕ, ◌+◌, ◌*◌, length}
+use Rattle.std.proofs.Common.{◌+◌, ◌*◌, length}
 use Rattle.vt_show.proofs.reader.+reader.Given as goal
 
 -- The text gets shorter, or the part that is read gets smaller.

@@ -1,4 +1,4 @@
-use Rattle.std.proofs.Common.{sym, ◌∙◌}
+use Rattle.std.proofs.Common.{sym}
 use Rattle.vt_show.proofs.Signs.{dim_at_is}
 use Rattle.vt_show.proofs.reader.read_dimension.Goals as goal
 

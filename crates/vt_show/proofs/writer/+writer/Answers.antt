@@ -1,6 +1,6 @@
-use Rattle.std.proofs.Common.{◌+◌, ◌*◌, ◌<◌, ap, arith, ◌∙◌}
+use Rattle.std.proofs.Common.{ap, arith, ◌∙◌}
 use Rattle.std.proofs.lemmas.Result.{on_ok_weaker}
-use Rattle.vt_type.specs.Variational.{nodes, vkids_nodes}
+use Rattle.vt_type.specs.Variational.{vkids_nodes}
 use Rattle.vt_type.proofs.Makers.{choice_here}
 use Rattle.vt_type.proofs.Selecting.{choice_parts}
 use Rattle.vt_type.proofs.Sizes.{nodes-positive, nodes-choice}

@@ -1,4 +1,4 @@
-use Rattle.std.proofs.Common.{ℕ, ◌+◌, ◌*◌}
+use Rattle.std.proofs.Common.{◌+◌, ◌*◌}
 use Rattle.vt_type.specs.Variational.{nodes, vkids_nodes}
 use Rattle.vt_show.proofs.writer.+writer.Given as goal
 

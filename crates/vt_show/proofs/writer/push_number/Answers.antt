@@ -1,4 +1,4 @@
-use Rattle.std.proofs.Common.{rules, arith}
+use Rattle.std.proofs.Common.{arith}
 use Rattle.vt_show.proofs.LetterTexts.{decimal-digits}
 use Rattle.vt_show.proofs.writer.push_number.Goals as goal
 

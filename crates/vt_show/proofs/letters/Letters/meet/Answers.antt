@@ -1,5 +1,4 @@
-use Rattle.std.proofs.Common.{◌≡◌, sym, ap, ◌∙◌}
-use Rattle.vt_type.specs.Text.{distinct}
+use Rattle.std.proofs.Common.{sym, ap, ◌∙◌}
 use Rattle.vt_show.proofs.Distincts.{with_name, with_name-map, with_name-known, distinct-push}
 use Rattle.vt_show.proofs.letters.Letters.meet.Goals as goal
 
