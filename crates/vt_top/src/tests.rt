@@ -75,20 +75,20 @@ fn other_files_are_not_supported_yet(rt: HostRuntime) -> Result<(), Fail> {
     Ok(())
 }
 
+// The words are answered by the line on usage.
+fn is_usage(alloc: Global, words: &[&str]) -> Result<bool, AllocError> {
+    let (status, sink) = answer(alloc, words, b"1")?;
+    let line = b"usage: vtc COMMAND ARGUMENTS\n".as_slice();
+    Ok(status == Status::Usage && sink.bytes() == line)
+}
+
 #[test]
 fn words_are_two(rt: HostRuntime) -> Result<(), Fail> {
     let alloc = rt.alloc();
-    let usage = b"usage: vtc COMMAND ARGUMENTS\n".as_slice();
-    for words in [
-        [].as_slice(),
-        ["type"].as_slice(),
-        ["check", "f"].as_slice(),
-        ["type", "f", "f"].as_slice(),
-    ] {
-        let (status, sink) = answer(alloc, words, b"1")?;
-        assert_eq!(rt; status, Status::Usage);
-        assert_eq!(rt; sink.bytes(), usage);
-    }
+    assert!(rt; is_usage(alloc, &[])?);
+    assert!(rt; is_usage(alloc, &["type"])?);
+    assert!(rt; is_usage(alloc, &["check", "f"])?);
+    assert!(rt; is_usage(alloc, &["type", "f", "f"])?);
     Ok(())
 }
 
