@@ -9,7 +9,7 @@ use Rattle.std.proofs.lemmas.Option.{same_Some}
 use Rattle.vt_dec.specs.Decisions.{Region, Admits, MustTake, IsSideOf, IsKept}
 use Rattle.vt_store.specs.Writes.{IsBefore, IsNextAt, IsGap, IsWrite}
 use Rattle.vt_store.proofs.Writing.{write_both, write_left, write_right}
-use Rattle.vt_store.specs.Diagrams.{choice, end_in, IsOrdered, IsBehind, HasCells, Passes}
+use Rattle.vt_store.specs.Diagrams.{IsJoined, choice, end_in, IsOrdered, IsBehind, HasCells, Passes}
 use Rattle.vt_store.specs.Branches.{PassesChoice, Branches, IsLeastBranch}
 use Rattle.vt_store.proofs.Branching.{branches_left, branches_right, left_branches, right_branches, branches_here}
 
@@ -52,8 +52,9 @@ IsLeaf-same (choice own left right) one other leaf = absurd (leaf own left right
 pub cells_parts : (count dim : ℕ) (diagram left right : Diagram) → diagram ≡ Choice dim left right → HasCells count diagram → HasCells count left × HasCells count right
 cells_parts count dim diagram left right is h = subst (HasCells count) (is ∙ diagram_here dim left right) h
 
-pub cells_made : (count dim : ℕ) (diagram left right : Diagram) → diagram ≡ choice dim left right → HasCells count left → HasCells count right → HasCells count diagram
-cells_made count dim diagram left right is l r = subst (HasCells count) (sym is) (l, r)
+pub cells_made : (count dim : ℕ) (diagram left right : Diagram) → IsJoined dim left right diagram → HasCells count left → HasCells count right → HasCells count diagram
+cells_made count dim diagram left right (inl is) l r = subst (HasCells count) (sym is) (l, r)
+cells_made count dim diagram left right (inr (is, leaf)) l r = subst (HasCells count) (sym is) l
 
 -- an earlier dimension will do as the first
 pub IsOrdered-earlier : (bound late early : ℕ) (diagram : Diagram) → early ≤ late → IsOrdered bound late diagram → IsOrdered bound early diagram
@@ -101,6 +102,18 @@ pub end_in-made : (dim : ℕ) (left right diagram : Diagram) → diagram ≡ cho
     → ◌≡◌ {A = List Side → CellEnd} (λ decision. by_side (slice_get decision dim) (end_in decision left) (end_in decision right)) (λ decision. end_in decision diagram)
 end_in-made dim left right diagram is = λ i decision. end_in decision (sym is i)
 
+same_sides : (side : Option Side) (x : CellEnd) → by_side side x x ≡ x
+same_sides (Some Left) x = refl
+same_sides (Some Right) x = refl
+same_sides None x = refl
+
+-- likewise where the two sides may be joined
+end_in-joined : (dim : ℕ) (left right diagram : Diagram) → IsJoined dim left right diagram
+    → ◌≡◌ {A = List Side → CellEnd} (λ decision. by_side (slice_get decision dim) (end_in decision left) (end_in decision right)) (λ decision. end_in decision diagram)
+end_in-joined dim left right diagram (inl made) = end_in-made dim left right diagram made
+end_in-joined dim left right diagram (inr (same, leaf)) =
+    λ i decision. (ap (λ (own : Diagram). by_side (slice_get decision dim) (end_in decision left) (end_in decision own)) (sym leaf.0) ∙ same_sides (slice_get decision dim) (end_in decision left) ∙ ap (end_in decision) (sym same)) i
+
 -- A choice of which one side or both are written.
 module _ (N : ℕ) (region : Region) (dim next from : ℕ) (change : CellEnd → CellEnd) (diagram left right : Diagram)
     (is : diagram ≡ Choice dim left right) (one_more : next ≡ dim + 1) (kept : IsKept region) (ordered : IsOrdered (64 * N) from diagram) where
@@ -119,11 +132,16 @@ module _ (N : ℕ) (region : Region) (dim next from : ℕ) (change : CellEnd →
   abbrev sides_of : Diagram → Diagram → List Side → CellEnd
   sides_of one other d = by_side (slice_get d dim) (end_in d one) (end_in d other)
 
-  turned : (lefts rights written : Diagram) → written ≡ choice dim lefts rights → IsOrdered (64 * N) next lefts → IsOrdered (64 * N) next rights
+  joined_ordered : (lefts rights written : Diagram) → IsJoined dim lefts rights written → IsOrdered (64 * N) next lefts → IsOrdered (64 * N) next rights → IsOrdered (64 * N) dim written
+  joined_ordered lefts rights written (inl made) one other =
+      subst (IsOrdered (64 * N) dim) (sym made) (omega arith, parts.1, subst (λ n. IsOrdered (64 * N) n lefts) one_more one, subst (λ n. IsOrdered (64 * N) n rights) one_more other)
+  joined_ordered lefts rights written (inr (same, leaf)) one other = subst (IsOrdered (64 * N) dim) (sym same) (leaf.1 dim (64 * N))
+
+  turned : (lefts rights written : Diagram) → IsJoined dim lefts rights written → IsOrdered (64 * N) next lefts → IsOrdered (64 * N) next rights
       → ((stop : ℕ) → IsGap region stop dim → IsWrite N region stop change (sides_of left right) (sides_of lefts rights)) → IsTurned written
   turned lefts rights written made one other writes = (
-    (parts.1, subst (IsOrdered (64 * N) dim) (sym made) (omega arith, parts.1, subst (λ n. IsOrdered (64 * N) n lefts) one_more one, subst (λ n. IsOrdered (64 * N) n rights) one_more other)),
-    λ stop gap. subst (IsWrite N region stop change (λ d. end_in d diagram)) (end_in-made dim lefts rights written made)
+    (parts.1, joined_ordered lefts rights written made one other),
+    λ stop gap. subst (IsWrite N region stop change (λ d. end_in d diagram)) (end_in-joined dim lefts rights written made)
         (subst (λ (old : List Side → CellEnd). IsWrite N region stop change old (sides_of lefts rights)) (end_in-made dim left right diagram (is ∙ diagram_here dim left right)) (writes stop gap)),
   )
 
@@ -133,19 +151,19 @@ module _ (N : ℕ) (region : Region) (dim next from : ℕ) (change : CellEnd →
   at_next : (old new : Diagram) → Writes old new → IsWrite N region (suc dim) change (λ d. end_in d old) (λ d. end_in d new)
   at_next old new w = subst (λ n. IsWrite N region n change (λ d. end_in d old) (λ d. end_in d new)) (omega arith) w.1
 
-  pub turned_both : (lefts rights written : Diagram) → (dim < 64 * N → IsSideOf region dim None) → Writes left lefts → Writes right rights → written ≡ choice dim lefts rights → IsTurned written
+  pub turned_both : (lefts rights written : Diagram) → (dim < 64 * N → IsSideOf region dim None) → Writes left lefts → Writes right rights → IsJoined dim lefts rights written → IsTurned written
   turned_both lefts rights written either one other made =
       turned lefts rights written made one.0 other.0
       (λ stop gap. write_both N region stop change dim gap (either parts.1) parts.1 _ _ _ _ (at_next left lefts one) (at_next right rights other))
 
-  pub turned_left : (lefts copied written : Diagram) → (dim < 64 * N → IsSideOf region dim (Some Left)) → Writes left lefts → copied ≡ right → written ≡ choice dim lefts copied → IsTurned written
+  pub turned_left : (lefts copied written : Diagram) → (dim < 64 * N → IsSideOf region dim (Some Left)) → Writes left lefts → copied ≡ right → IsJoined dim lefts copied written → IsTurned written
   turned_left lefts copied written must one same made =
-      turned lefts right written (made ∙ ap (choice dim lefts) same) one.0 right_ordered
+      turned lefts right written (subst (λ (own : Diagram). IsJoined dim lefts own written) same made) one.0 right_ordered
       (λ stop gap. write_left N region stop change dim gap kept parts.1 _ _ (must parts.1) _ (at_next left lefts one))
 
-  pub turned_right : (rights copied written : Diagram) → (dim < 64 * N → IsSideOf region dim (Some Right)) → Writes right rights → copied ≡ left → written ≡ choice dim copied rights → IsTurned written
+  pub turned_right : (rights copied written : Diagram) → (dim < 64 * N → IsSideOf region dim (Some Right)) → Writes right rights → copied ≡ left → IsJoined dim copied rights written → IsTurned written
   turned_right rights copied written must other same made =
-      turned left rights written (made ∙ ap (λ (one : Diagram). choice dim one rights) same) left_ordered other.0
+      turned left rights written (subst (λ (own : Diagram). IsJoined dim own rights written) same made) left_ordered other.0
       (λ stop gap. write_right N region stop change dim gap kept parts.1 _ _ (must parts.1) _ (at_next right rights other))
 
 -- an ordered choice is behind whatever comes before its dimension

@@ -9,7 +9,7 @@ use Rattle.std.proofs.lemmas.Option.{same_Some}
 use Rattle.vt_dec.specs.Decisions.{Region, Admits, MustTake, IsSideOf, IsKept, IsNextDecided}
 use Rattle.vt_store.specs.Writes.{IsBefore, IsNextAt, IsGap, IsWrite}
 use Rattle.vt_store.proofs.Writing.{write_all, write_both, write_left, write_right}
-use Rattle.vt_store.specs.Fates.{fates_choice, fate_in, AreOrdered, AreBehind, PassesFates}
+use Rattle.vt_store.specs.Fates.{AreJoined, fates_choice, fate_in, AreOrdered, AreBehind, PassesFates}
 use Rattle.vt_store.specs.Branches.{PassesChoice, Branches, IsLeastBranch}
 use Rattle.vt_store.proofs.Branching.{branches_left, branches_right, left_branches, right_branches, branches_here}
 
@@ -70,6 +70,18 @@ pub fate_in-made : (dim : ℕ) (left right fates : Fates) → fates ≡ fates_ch
     → ◌≡◌ {A = List Side → Fate} (λ decision. by_side (slice_get decision dim) (fate_in decision left) (fate_in decision right)) (λ decision. fate_in decision fates)
 fate_in-made dim left right fates is = λ i decision. fate_in decision (sym is i)
 
+same_sides : (side : Option Side) (x : Fate) → by_side side x x ≡ x
+same_sides (Some Left) x = refl
+same_sides (Some Right) x = refl
+same_sides None x = refl
+
+-- likewise where the two sides may be joined
+fate_in-joined : (dim : ℕ) (left right fates : Fates) → AreJoined dim left right fates
+    → ◌≡◌ {A = List Side → Fate} (λ decision. by_side (slice_get decision dim) (fate_in decision left) (fate_in decision right)) (λ decision. fate_in decision fates)
+fate_in-joined dim left right fates (inl made) = fate_in-made dim left right fates made
+fate_in-joined dim left right fates (inr (same, leaf)) =
+    λ i decision. (ap (λ (own : Fates). by_side (slice_get decision dim) (fate_in decision left) (fate_in decision own)) (sym leaf.0) ∙ same_sides (slice_get decision dim) (fate_in decision left) ∙ ap (fate_in decision) (sym same)) i
+
 -- A choice of which one side or both are written.
 module _ (N : ℕ) (region : Region) (dim next from : ℕ) (change : Fate → Fate) (fates left right : Fates)
     (is : fates ≡ Choice dim left right) (one_more : next ≡ dim + 1) (kept : IsKept region) (ordered : AreOrdered (64 * N) from fates) where
@@ -88,11 +100,16 @@ module _ (N : ℕ) (region : Region) (dim next from : ℕ) (change : Fate → Fa
   abbrev sides_of : Fates → Fates → List Side → Fate
   sides_of one other d = by_side (slice_get d dim) (fate_in d one) (fate_in d other)
 
-  turned : (lefts rights written : Fates) → written ≡ fates_choice dim lefts rights → AreOrdered (64 * N) next lefts → AreOrdered (64 * N) next rights
+  joined_ordered : (lefts rights written : Fates) → AreJoined dim lefts rights written → AreOrdered (64 * N) next lefts → AreOrdered (64 * N) next rights → AreOrdered (64 * N) dim written
+  joined_ordered lefts rights written (inl made) one other =
+      subst (AreOrdered (64 * N) dim) (sym made) (omega arith, parts.1, subst (λ n. AreOrdered (64 * N) n lefts) one_more one, subst (λ n. AreOrdered (64 * N) n rights) one_more other)
+  joined_ordered lefts rights written (inr (same, leaf)) one other = subst (AreOrdered (64 * N) dim) (sym same) (leaf.1 dim (64 * N))
+
+  turned : (lefts rights written : Fates) → AreJoined dim lefts rights written → AreOrdered (64 * N) next lefts → AreOrdered (64 * N) next rights
       → ((stop : ℕ) → IsGap region stop dim → IsWrite N region stop change (sides_of left right) (sides_of lefts rights)) → IsTurned written
   turned lefts rights written made one other writes = (
-    (parts.1, subst (AreOrdered (64 * N) dim) (sym made) (omega arith, parts.1, subst (λ n. AreOrdered (64 * N) n lefts) one_more one, subst (λ n. AreOrdered (64 * N) n rights) one_more other)),
-    λ stop gap. subst (IsWrite N region stop change (λ d. fate_in d fates)) (fate_in-made dim lefts rights written made)
+    (parts.1, joined_ordered lefts rights written made one other),
+    λ stop gap. subst (IsWrite N region stop change (λ d. fate_in d fates)) (fate_in-joined dim lefts rights written made)
         (subst (λ (old : List Side → Fate). IsWrite N region stop change old (sides_of lefts rights)) (fate_in-made dim left right fates (is ∙ fates_here dim left right)) (writes stop gap)),
   )
 
@@ -102,19 +119,19 @@ module _ (N : ℕ) (region : Region) (dim next from : ℕ) (change : Fate → Fa
   at_next : (old new : Fates) → Writes old new → IsWrite N region (suc dim) change (λ d. fate_in d old) (λ d. fate_in d new)
   at_next old new w = subst (λ n. IsWrite N region n change (λ d. fate_in d old) (λ d. fate_in d new)) (omega arith) w.1
 
-  pub turned_both : (lefts rights written : Fates) → (dim < 64 * N → IsSideOf region dim None) → Writes left lefts → Writes right rights → written ≡ fates_choice dim lefts rights → IsTurned written
+  pub turned_both : (lefts rights written : Fates) → (dim < 64 * N → IsSideOf region dim None) → Writes left lefts → Writes right rights → AreJoined dim lefts rights written → IsTurned written
   turned_both lefts rights written either one other made =
       turned lefts rights written made one.0 other.0
       (λ stop gap. write_both N region stop change dim gap (either parts.1) parts.1 _ _ _ _ (at_next left lefts one) (at_next right rights other))
 
-  pub turned_left : (lefts copied written : Fates) → (dim < 64 * N → IsSideOf region dim (Some Left)) → Writes left lefts → copied ≡ right → written ≡ fates_choice dim lefts copied → IsTurned written
+  pub turned_left : (lefts copied written : Fates) → (dim < 64 * N → IsSideOf region dim (Some Left)) → Writes left lefts → copied ≡ right → AreJoined dim lefts copied written → IsTurned written
   turned_left lefts copied written must one same made =
-      turned lefts right written (made ∙ ap (fates_choice dim lefts) same) one.0 right_ordered
+      turned lefts right written (subst (λ (own : Fates). AreJoined dim lefts own written) same made) one.0 right_ordered
       (λ stop gap. write_left N region stop change dim gap kept parts.1 _ _ (must parts.1) _ (at_next left lefts one))
 
-  pub turned_right : (rights copied written : Fates) → (dim < 64 * N → IsSideOf region dim (Some Right)) → Writes right rights → copied ≡ left → written ≡ fates_choice dim copied rights → IsTurned written
+  pub turned_right : (rights copied written : Fates) → (dim < 64 * N → IsSideOf region dim (Some Right)) → Writes right rights → copied ≡ left → AreJoined dim copied rights written → IsTurned written
   turned_right rights copied written must other same made =
-      turned left rights written (made ∙ ap (λ (one : Fates). fates_choice dim one rights) same) left_ordered other.0
+      turned left rights written (subst (λ (own : Fates). AreJoined dim own rights written) same made) left_ordered other.0
       (λ stop gap. write_right N region stop change dim gap kept parts.1 _ _ (must parts.1) _ (at_next right rights other))
 
 -- one fate, which is written where nothing more is decided

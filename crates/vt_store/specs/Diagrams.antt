@@ -1,4 +1,4 @@
-use Rattle.std.specs.Prelude.{◌≡◌, ℕ, ◌+◌, ◌*◌, ◌^◌, ◌<◌, ◌≤◌, List, map, Option, Some, None, length, slice_get}
+use Rattle.std.specs.Prelude.{◌≡◌, ◌⊎◌, ℕ, ◌+◌, ◌*◌, ◌^◌, ◌<◌, ◌≤◌, List, map, Option, Some, None, length, slice_get}
 use Rattle.std.specs.List.{All}
 use Rattle.vt_dec.specs.declared.side.Side.{Side}
 use Rattle.vt_type.specs.Plain.{arity}
@@ -62,3 +62,11 @@ Passes (choice own left right) decision dim = PassesChoice own (Passes left) (Pa
 pub record IsDiagram (N count : ℕ) (diagram : Diagram) : Type 0 where
   pub ordered : IsOrdered (64 * N) 0 diagram
   pub cells : HasCells count diagram
+
+-- two sides that are one, and no choice
+abbrev pub AreOneLeaf : Diagram → Diagram → Type 0
+AreOneLeaf left right = (left ≡ right) × ((from : ℕ) (bound : ℕ) → IsOrdered bound from left)
+
+-- a choice between two sides, or one of them where they are one
+abbrev pub IsJoined : ℕ → Diagram → Diagram → Diagram → Type 0
+IsJoined dim left right diagram = (diagram ≡ choice dim left right) ⊎ ((diagram ≡ left) × AreOneLeaf left right)

@@ -1,4 +1,4 @@
-use Rattle.std.specs.Prelude.{ℕ, ◌+◌, ◌<◌, ◌≤◌, List, Option, Some, None, slice_get}
+use Rattle.std.specs.Prelude.{◌≡◌, ◌⊎◌, ℕ, ◌+◌, ◌<◌, ◌≤◌, List, Option, Some, None, slice_get}
 use Rattle.vt_dec.specs.declared.side.Side.{Side}
 use Rattle.vt_dec.specs.declared.fate.Fate.{Fate}
 use Rattle.vt_dec.specs.declared.fate.Fate.TheVariants.{Alive, Dead}
@@ -34,3 +34,11 @@ AreBehind bound (Some dim) fates = (dim < bound) × AreOrdered bound dim fates
 abbrev pub PassesFates : Fates → List Side → ℕ → Type 0
 PassesFates (All fate) decision dim = ⊥
 PassesFates (fates_choice own left right) decision dim = PassesChoice own (PassesFates left) (PassesFates right) decision dim
+
+-- two sides that are one, and no choice
+abbrev pub AreOneFate : Fates → Fates → Type 0
+AreOneFate left right = (left ≡ right) × ((from : ℕ) (bound : ℕ) → AreOrdered bound from left)
+
+-- a choice between two sides, or one of them where they are one
+abbrev pub AreJoined : ℕ → Fates → Fates → Fates → Type 0
+AreJoined dim left right fates = (fates ≡ fates_choice dim left right) ⊎ ((fates ≡ left) × AreOneFate left right)

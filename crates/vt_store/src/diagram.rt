@@ -1,11 +1,11 @@
 //! A diagram of ends: what a cell is bound to at each decision.
-ghost use Rattle.std.specs.Prelude.{◌≡◌, ◌⊎◌, ℕ, ◌*◌, ◌<◌, ◌≤◌, length, List, Some, None, IfSome, IfOk};
+ghost use Rattle.std.specs.Prelude.{◌≡◌, ◌⊎◌, ℕ, ◌*◌, ◌<◌, ◌≤◌, length, List, Some, None, IfSome, IfOk, IsTrue};
 ghost use Rattle.vt_dec.specs.declared.side.Side.{Side};
 ghost use Rattle.vt_dec.specs.Decisions.{Admits, IsSideOf, IsKept};
 ghost use Rattle.vt_store.specs.Branches.{IsLeastBranch};
 ghost use Rattle.vt_store.specs.Writes.{IsWrite, IsBefore, IsGapTo};
 ghost use Rattle.vt_store.specs.Ends.{CellEnd, Same};
-ghost use Rattle.vt_store.specs.Diagrams.{choice, end_in, IsOrdered, IsBehind, HasCells, HasRoom, Passes, raised};
+ghost use Rattle.vt_store.specs.Diagrams.{choice, end_in, IsOrdered, IsBehind, HasCells, HasRoom, Passes, raised, AreOneLeaf, IsJoined};
 ghost use Rattle.vt_store.specs.Views.{seen};
 
 use crate::walk::{after, next_before, side_in};
@@ -36,6 +36,29 @@ impl Diagram {
         let left = Boxed::new(alloc, left)?;
         let right = Boxed::new(alloc, right)?;
         Ok(Diagram::Choice(dim, left, right))
+    }
+
+    /// A choice between two sides, or one of them where both are links to one cell.
+    fn joined(alloc: Global, dim: Dim, left: Diagram, right: Diagram) -> Result<Diagram, AllocError>
+        ensures { IfOk result (IsJoined dim left right) }
+    {
+        if left.is_link_of(&right) {
+            return Ok(left);
+        }
+        Diagram::choice(alloc, dim, left, right)
+    }
+
+    /// Both are links to one cell.
+    fn is_link_of(&self, other: &Diagram) -> bool
+        ensures { IsTrue result → AreOneLeaf self.now other.now }
+    {
+        match self {
+            Diagram::Link(cell) => match other {
+                Diagram::Link(own) => cell == own,
+                _ => false,
+            },
+            _ => false,
+        }
     }
 
     /// The same diagram again.
@@ -175,15 +198,15 @@ impl Diagram {
                     None => {
                         let left = left.bound(alloc, within, next, to)?;
                         let right = right.bound(alloc, within, next, to)?;
-                        Diagram::choice(alloc, dim, left, right)?
+                        Diagram::joined(alloc, dim, left, right)?
                     }
                     Some(Side::Left) => {
                         let left = left.bound(alloc, within, next, to)?;
-                        Diagram::choice(alloc, dim, left, right.copied(alloc)?)?
+                        Diagram::joined(alloc, dim, left, right.copied(alloc)?)?
                     }
                     Some(Side::Right) => {
                         let right = right.bound(alloc, within, next, to)?;
-                        Diagram::choice(alloc, dim, left.copied(alloc)?, right)?
+                        Diagram::joined(alloc, dim, left.copied(alloc)?, right)?
                     }
                 };
                 self.guarded(alloc, within, from, &Some(dim), written)

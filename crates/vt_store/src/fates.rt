@@ -1,11 +1,11 @@
 //! A diagram of fates: what became of each decision.
-ghost use Rattle.std.specs.Prelude.{◌≡◌, ◌⊎◌, ℕ, ◌*◌, ◌<◌, ◌≤◌, length, List, Some, None, IfSome, IfOk};
+ghost use Rattle.std.specs.Prelude.{◌≡◌, ◌⊎◌, ℕ, ◌*◌, ◌<◌, ◌≤◌, length, List, Some, None, IfSome, IfOk, IsTrue};
 ghost use Rattle.vt_dec.specs.declared.fate.Fate.{Fate};
 ghost use Rattle.vt_dec.specs.declared.side.Side.{Side};
 ghost use Rattle.vt_dec.specs.Decisions.{Admits, IsSideOf, IsKept};
 ghost use Rattle.vt_store.specs.Branches.{IsLeastBranch};
 ghost use Rattle.vt_store.specs.Writes.{IsWrite, IsBefore, IsGapTo};
-ghost use Rattle.vt_store.specs.Fates.{fate_in, AreOrdered, AreBehind, killed, fates_choice, PassesFates};
+ghost use Rattle.vt_store.specs.Fates.{AreOneFate, AreJoined, fate_in, AreOrdered, AreBehind, killed, fates_choice, PassesFates};
 
 use crate::walk::{after, next_before, side_in};
 use sqlite_items::Boxed;
@@ -26,6 +26,29 @@ impl Fates {
         let left = Boxed::new(alloc, left)?;
         let right = Boxed::new(alloc, right)?;
         Ok(Fates::Choice(dim, left, right))
+    }
+
+    /// A choice between two sides, or one of them where both are one fate.
+    fn joined(alloc: Global, dim: Dim, left: Fates, right: Fates) -> Result<Fates, AllocError>
+        ensures { IfOk result (AreJoined dim left right) }
+    {
+        if left.is_fate_of(&right) {
+            return Ok(left);
+        }
+        Fates::choice(alloc, dim, left, right)
+    }
+
+    /// Both are one fate.
+    fn is_fate_of(&self, other: &Fates) -> bool
+        ensures { IsTrue result → AreOneFate self.now other.now }
+    {
+        match self {
+            Fates::All(fate) => match other {
+                Fates::All(own) => are_one(*fate, *own),
+                Fates::Choice(_, _, _) => false,
+            },
+            Fates::Choice(_, _, _) => false,
+        }
     }
 
     /// The same fates again.
@@ -139,20 +162,36 @@ impl Fates {
                     None => {
                         let left = left.masked(alloc, within, next, node)?;
                         let right = right.masked(alloc, within, next, node)?;
-                        Fates::choice(alloc, dim, left, right)?
+                        Fates::joined(alloc, dim, left, right)?
                     }
                     Some(Side::Left) => {
                         let left = left.masked(alloc, within, next, node)?;
-                        Fates::choice(alloc, dim, left, right.copied(alloc)?)?
+                        Fates::joined(alloc, dim, left, right.copied(alloc)?)?
                     }
                     Some(Side::Right) => {
                         let right = right.masked(alloc, within, next, node)?;
-                        Fates::choice(alloc, dim, left.copied(alloc)?, right)?
+                        Fates::joined(alloc, dim, left.copied(alloc)?, right)?
                     }
                 };
                 self.guarded(alloc, within, from, &Some(dim), written)
             }
         }
+    }
+}
+
+/// The same fate twice.
+fn are_one(one: Fate, other: Fate) -> bool
+    ensures { IsTrue result → one ≡ other }
+{
+    match one {
+        Fate::Alive => match other {
+            Fate::Alive => true,
+            Fate::Dead(_) => false,
+        },
+        Fate::Dead(node) => match other {
+            Fate::Alive => false,
+            Fate::Dead(own) => node == own,
+        },
     }
 }
 

@@ -1,8 +1,8 @@
 use Rattle.std.proofs.Common.{◌≡◌, ◌*◌, ◌<◌, Some, None, inl, sym, subst, ◌∙◌}
 use Rattle.vt_dec.specs.declared.side.Side.{Side}
 use Rattle.vt_dec.specs.Decisions.{IsSideOf}
-use Rattle.vt_store.specs.declared.fates.Fates.{Choice}
-use Rattle.vt_store.specs.Fates.{killed, AreBehind}
+use Rattle.vt_store.specs.declared.fates.Fates.{Fates, Choice}
+use Rattle.vt_store.specs.Fates.{AreJoined, killed, AreBehind}
 use Rattle.vt_store.proofs.Writing.{both_ok, from_or_before}
 use Rattle.vt_store.proofs.FateShapes.{fates_parts, IsTurned, turned_both, turned_left, turned_right, left_ordered, right_ordered, written_leaf, fates_behind}
 use Rattle.vt_store.proofs.fates.Fates.+masked.Goals as goal
@@ -23,15 +23,15 @@ returns-after-side_in g t c kept long ordered =
     elim c.match-side_in.branch [
       | in-None+in_ok-left-in-None+in_ok-right-in-None+in_ok-written-in-None w ↦
           turned_both g.row.N c.args.within.now c.in-Choice.dim c.in_ok-next-in-Choice.next c.args.from (killed c.args.node) c.args.self.now c.get-left.result.now c.get-right.result.now is c.in_ok-next-in-Choice.ensures kept ordered w.in_ok-left-in-None.left w.in_ok-right-in-None.right c.match-side_in.written
-          w.in-None.ensures (w.in_ok-left-in-None.ensures kept long left) (w.in_ok-right-in-None.ensures kept long right) (w.written-is ∙ w.in_ok-written-in-None.ensures)
+          w.in-None.ensures (w.in_ok-left-in-None.ensures kept long left) (w.in_ok-right-in-None.ensures kept long right) (subst (λ (made : Fates). AreJoined c.in-Choice.dim w.in_ok-left-in-None.left w.in_ok-right-in-None.right made) (sym w.written-is) w.in_ok-written-in-None.ensures)
       | in-Some-Left+in_ok-left-in-Some-Left+in_ok-copied-in-Some-Left+in_ok-written-in-Some-Left w ↦
           turned_left g.row.N c.args.within.now c.in-Choice.dim c.in_ok-next-in-Choice.next c.args.from (killed c.args.node) c.args.self.now c.get-left.result.now c.get-right.result.now is c.in_ok-next-in-Choice.ensures kept ordered w.in_ok-left-in-Some-Left.left w.in_ok-copied-in-Some-Left.field-0 c.match-side_in.written
           (subst (λ (side : Side). c.in-Choice.dim < 64 * g.row.N → IsSideOf c.args.within.now c.in-Choice.dim (Some side)) w.in-Some-Left.field-0-is w.in-Some-Left.ensures)
-          (w.in_ok-left-in-Some-Left.ensures kept long left) w.in_ok-copied-in-Some-Left.ensures (w.written-is ∙ w.in_ok-written-in-Some-Left.ensures)
+          (w.in_ok-left-in-Some-Left.ensures kept long left) w.in_ok-copied-in-Some-Left.ensures (subst (λ (made : Fates). AreJoined c.in-Choice.dim w.in_ok-left-in-Some-Left.left w.in_ok-copied-in-Some-Left.field-0 made) (sym w.written-is) w.in_ok-written-in-Some-Left.ensures)
       | in-Some-Right+in_ok-right-in-Some-Right+in_ok-copied-in-Some-Right+in_ok-written-in-Some-Right w ↦
           turned_right g.row.N c.args.within.now c.in-Choice.dim c.in_ok-next-in-Choice.next c.args.from (killed c.args.node) c.args.self.now c.get-left.result.now c.get-right.result.now is c.in_ok-next-in-Choice.ensures kept ordered w.in_ok-right-in-Some-Right.right w.in_ok-copied-in-Some-Right.field-0 c.match-side_in.written
           (subst (λ (side : Side). c.in-Choice.dim < 64 * g.row.N → IsSideOf c.args.within.now c.in-Choice.dim (Some side)) w.in-Some-Right.field-0-is w.in-Some-Right.ensures)
-          (w.in_ok-right-in-Some-Right.ensures kept long right) w.in_ok-copied-in-Some-Right.ensures (w.written-is ∙ w.in_ok-written-in-Some-Right.ensures)
+          (w.in_ok-right-in-Some-Right.ensures kept long right) w.in_ok-copied-in-Some-Right.ensures (subst (λ (made : Fates). AreJoined c.in-Choice.dim w.in_ok-copied-in-Some-Right.field-0 w.in_ok-right-in-Some-Right.right made) (sym w.written-is) w.in_ok-written-in-Some-Right.ensures)
     ]
     in
     let parts = fates_parts (64 * g.row.N) c.args.from c.in-Choice.dim c.args.self.now c.in-Choice.left c.in-Choice.right c.in-Choice.is ordered in
