@@ -168,9 +168,6 @@ module _ (region : Region) (part fates : Fates) (alike : IsAlike region part fat
     pub never_branches : IsLeastBranch region (PassesFates fates) None
     never_branches dim b = (subst (λ (f : Fates). Branches region (PassesFates f) dim) is (alike.down dim b)).left_passes
 
-    pub one_fate : (one other : List Side) → Admits region one → Admits region other → fate_in one fates ≡ fate_in other fates
-    one_fate one other a b = sym (alike.same one a) ∙ ap (fate_in one) is ∙ sym (ap (fate_in other) is) ∙ alike.same other b
-
   module _ (bound from dim : ℕ) (left right : Fates) (is : part ≡ Choice dim left right) where
     same_choice : part ≡ fates_choice dim left right
     same_choice = is ∙ fates_here dim left right
