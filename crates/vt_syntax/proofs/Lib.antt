@@ -1,0 +1,2 @@
+pub mod SurfaceMakers
+pub mod CoreMakers
