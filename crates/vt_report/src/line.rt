@@ -1,0 +1,79 @@
+ghost use Rattle.std.specs.Prelude.{◌≡◌, ◌++◌, codes, decimal, string_bytes, IfOk, OnOk};
+ghost use Rattle.vt_report.specs.Lines.{line, placed, refusal_line};
+
+use crate::Refusal;
+use std::alloc::{AllocError, Global};
+use vt_lex::LineCol;
+
+/// The line of a refusal, with the line feed that ends it.
+pub fn refusal_line(alloc: Global, refusal: &Refusal) -> Result<String, AllocError>
+    ensures { IfOk result (λ text. string_bytes text ≡ refusal_line refusal.now) }
+{
+    match refusal {
+        Refusal::TooLong => fixed(alloc, "file too long"),
+        Refusal::NotText { at } => not_text(alloc, *at),
+        Refusal::BadCharacter { at } => at_place(alloc, *at, "bad character", ""),
+        Refusal::OpenString { at } => at_place(alloc, *at, "string not closed", ""),
+        Refusal::BigNumber { at } => at_place(alloc, *at, "number too large", ""),
+        Refusal::Unexpected { at, token } => at_place(alloc, *at, "unexpected ", token.as_str()),
+        Refusal::TooDeep { at } => at_place(alloc, *at, "nested too deep", ""),
+        Refusal::Unbound { at, name } => at_place(alloc, *at, "unbound name ", name.as_str()),
+        Refusal::TooManyDimensions { at } => at_place(alloc, *at, "more than 64 dimensions", ""),
+        Refusal::NotYet => fixed(alloc, "not supported yet"),
+        Refusal::TooBigPart { name } => too_big(alloc, name.as_str()),
+    }
+}
+
+fn fixed(alloc: Global, text: &str) -> Result<String, AllocError>
+    ensures { IfOk result (λ out. string_bytes out ≡ line text.now) }
+{
+    let mut out = String::from_str(alloc, text)?;
+    push(&mut out, "\n")?;
+    Ok(out)
+}
+
+fn not_text(alloc: Global, at: u32) -> Result<String, AllocError>
+    ensures { IfOk result (λ out. string_bytes out ≡ line (codes "not UTF-8 at byte " ++ decimal at)) }
+{
+    let mut out = String::from_str(alloc, "not UTF-8 at byte ")?;
+    push_number(&mut out, at)?;
+    push(&mut out, "\n")?;
+    Ok(out)
+}
+
+// A place, a text, and what it names.
+fn at_place(alloc: Global, at: LineCol, text: &str, name: &str) -> Result<String, AllocError>
+    ensures { IfOk result (λ out. string_bytes out ≡ placed at (text.now ++ name.now)) }
+{
+    let mut out = String::new(alloc);
+    push_number(&mut out, at.line)?;
+    push(&mut out, ":")?;
+    push_number(&mut out, at.column)?;
+    push(&mut out, " ")?;
+    push(&mut out, text)?;
+    push(&mut out, name)?;
+    push(&mut out, "\n")?;
+    Ok(out)
+}
+
+fn too_big(alloc: Global, name: &str) -> Result<String, AllocError>
+    ensures { IfOk result (λ out. string_bytes out ≡ line (codes "type of " ++ name.now ++ codes " has more than 4096 nodes")) }
+{
+    let mut out = String::from_str(alloc, "type of ")?;
+    push(&mut out, name)?;
+    push(&mut out, " has more than 4096 nodes\n")?;
+    Ok(out)
+}
+
+fn push(out: &mut String, text: &str) -> Result<(), AllocError>
+    ensures { OnOk result (string_bytes out.new ≡ string_bytes out.old ++ text.now) }
+{
+    out.push_str(text)
+}
+
+fn push_number(out: &mut String, number: u32) -> Result<(), AllocError>
+    ensures { OnOk result (string_bytes out.new ≡ string_bytes out.old ++ decimal number) }
+{
+    write!(out, "{number}")?;
+    Ok(())
+}
