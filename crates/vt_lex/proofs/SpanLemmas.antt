@@ -8,8 +8,10 @@ use Rattle.std.proofs.lemmas.Str.{encodes-append, encode_ascii, length-le-encode
 use Rattle.vt_lex.specs.declared.token.Token.{Token}
 use Rattle.vt_lex.specs.declared.token.TokenKind.TheVariants as kind
 use Rattle.vt_lex.specs.Tokens.{Spelled, IsDimension}
-use Rattle.vt_lex.specs.Lexing.{byte_count, Lexes, end, token, AreCharactersOf}
-use Rattle.vt_lex.specs.Spans.{IsSpanIn, BeginWithAt}
+use Rattle.vt_lex.specs.Lexing.{byte_count, Lexes, end, token, Misses, later, big_number, open_string, bad_character, IsMissUnless, AreCharactersOf}
+use Rattle.vt_lex.specs.declared.fault.LexFault.{LexFault}
+use Rattle.vt_lex.specs.declared.fault.LexFault.TheVariants.{BadCharacter, OpenString, BigNumber, Memory}
+use Rattle.vt_lex.specs.Spans.{IsSpanIn, BeginWithAt, IsPlaceIn, LiesIn}
 use Rattle.vt_lex.proofs.FoundLemmas.{piece_length}
 
 -- Where the tokens of a text stand in its bytes.
@@ -92,3 +94,43 @@ spans_from text _ _ _ (token at gap cs rest t tokens is_gap longest spelled span
 -- the spans of the tokens of a text
 pub spans_of : (text cs : List ℕ) (tokens : List Token) → AreCharactersOf text cs → Lexes 0 cs tokens → SpansFrom text 0 tokens
 spans_of text cs tokens are lexes = spans_from text 0 cs tokens lexes (record { before = []; whole = sym are.encoded; place = refl; scalars = are.scalars })
+
+-- where characters are left, their place lies in the text
+place_in : (text : List ℕ) (at c : ℕ) (cs : List ℕ) → IsRest text at (c ∷ cs) → IsPlaceIn text at
+place_in text at c cs h =
+    let size = length-le-encodes (c ∷ cs) in
+    record {
+      before_end = omega (arith, ap length h.whole, length-append h.before (encode_utf8_all (c ∷ cs)), h.place, size);
+      boundary = boundary text at (c ∷ cs) h;
+    }
+
+-- the same of a piece and what follows
+piece_place : (text : List ℕ) (at : ℕ) (cs rest : List ℕ) → 0 < length cs → IsRest text at (cs ++ rest) → IsPlaceIn text at
+piece_place text at [] rest some h = absurd (omega arith)
+piece_place text at (c ∷ cs) rest some h = place_in text at c (cs ++ rest) h
+
+-- the fault of what is left lies in the text
+pub misses_lie : (text : List ℕ) (at : ℕ) (cs : List ℕ) (fault : LexFault) → Misses at cs fault → IsRest text at cs → LiesIn text fault
+misses_lie text _ _ _ (later at gap cs rest t fault is_gap longest spelled more) here =
+    misses_lie text (at + byte_count gap + byte_count cs) rest fault more (rest_after text (at + byte_count gap) cs rest (rest_after text at gap (cs ++ rest) here))
+misses_lie text _ _ _ (big_number at gap cs rest is_gap longest big) here = piece_place text _ cs rest (piece_length cs longest.piece) (rest_after text at gap (cs ++ rest) here)
+misses_lie text _ _ _ (open_string at gap rest is_gap none) here = place_in text _ 34 rest (rest_after text at gap (34 ∷ rest) here)
+misses_lie text _ _ _ (bad_character at gap c rest is_gap begins differs none) here = place_in text _ c rest (rest_after text at gap (c ∷ rest) here)
+
+-- the fault of a text lies in it
+pub fault_lies : (text cs : List ℕ) (fault : LexFault) → AreCharactersOf text cs → IsMissUnless 0 cs fault → LiesIn text fault
+fault_lies text cs (BadCharacter at) are miss = misses_lie text 0 cs (BadCharacter at) miss (record { before = []; whole = sym are.encoded; place = refl; scalars = are.scalars })
+fault_lies text cs (OpenString at) are miss = misses_lie text 0 cs (OpenString at) miss (record { before = []; whole = sym are.encoded; place = refl; scalars = are.scalars })
+fault_lies text cs (BigNumber span) are miss = misses_lie text 0 cs (BigNumber span) miss (record { before = []; whole = sym are.encoded; place = refl; scalars = are.scalars })
+fault_lies text cs Memory are miss = tt
+
+-- each token takes a byte
+pub token_count : (at : ℕ) (cs : List ℕ) (tokens : List Token) → Lexes at cs tokens → length tokens ≤ byte_count cs
+token_count _ _ _ (end at gap is_gap) = omega arith
+token_count _ _ _ (token at gap cs rest t tokens is_gap longest spelled span more) =
+    let others = token_count (at + byte_count gap + byte_count cs) rest tokens more in
+    let size = length-le-encodes cs in
+    let some = piece_length cs longest.piece in
+    let outer = ap length (encodes-append gap (cs ++ rest)) in
+    let inner = ap length (encodes-append cs rest) in
+    omega (arith, outer, inner, length-append (encode_utf8_all gap) (encode_utf8_all (cs ++ rest)), length-append (encode_utf8_all cs) (encode_utf8_all rest))

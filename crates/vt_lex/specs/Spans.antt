@@ -2,8 +2,10 @@ use Rattle.std.specs.Prelude.{◌≡◌, ℕ, ◌<◌, ◌≤◌, List, length, 
 use Rattle.vt_lex.specs.declared.span.Span.{Span}
 use Rattle.vt_lex.specs.declared.token.Token.{Token}
 use Rattle.vt_lex.specs.declared.token.TokenKind.TheVariants as kind
+use Rattle.vt_lex.specs.declared.fault.LexFault.{LexFault}
+use Rattle.vt_lex.specs.declared.fault.LexFault.TheVariants.{BadCharacter, OpenString, BigNumber, Memory}
 
--- Where tokens stand in a text.
+-- Where tokens and faults stand in a text.
 
 -- The span holds one or more characters of the text.
 pub record IsSpanIn (text : List ℕ) (span : Span) : Type 0 where
@@ -20,3 +22,15 @@ pub record AreSpansIn (text : List ℕ) (tokens : List Token) : Type 0 where
 -- the span of each dimension begins with its at sign
 abbrev pub BeginWithAt : List ℕ → List Token → Type 0
 BeginWithAt text tokens = All (λ t. t.kind ≡ kind.Dim → slice_index text t.span.start ≡ 64) tokens
+
+-- a place before the end of the text, at which a character begins
+pub record IsPlaceIn (text : List ℕ) (at : ℕ) : Type 0 where
+  pub before_end : at < length text
+  pub boundary : IsCharBoundary text at
+
+-- a fault names a place of the text
+abbrev pub LiesIn : List ℕ → LexFault → Type 0
+LiesIn text (BadCharacter at) = IsPlaceIn text at
+LiesIn text (OpenString at) = IsPlaceIn text at
+LiesIn text (BigNumber span) = IsPlaceIn text span.start
+LiesIn text Memory = Unit {0}

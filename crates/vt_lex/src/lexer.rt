@@ -2,7 +2,7 @@
 ghost use Rattle.std.specs.Prelude.{◌≡◌, ◌+◌, ◌≤◌, [], length, chars, IfOk, IfErr, MatchOption, MatchResult};
 ghost use Rattle.vt_lex.specs.Lexing.{byte_count, IsGap, Lexes, Misses, AreTokensOf, IsMissUnless, IsFaultOf};
 ghost use Rattle.vt_lex.specs.Reading.{SkipsGap, IsNext};
-ghost use Rattle.vt_lex.specs.Spans.{AreSpansIn, BeginWithAt};
+ghost use Rattle.vt_lex.specs.Spans.{AreSpansIn, BeginWithAt, LiesIn};
 
 use crate::pieces::{Front, front_of, gap_length};
 use crate::{LexFault, Span, Token};
@@ -15,7 +15,9 @@ pub fn lex(alloc: Global, text: &str) -> Result<Vec<Token>, LexFault>
     ensures tokens { IfOk result (λ tokens. AreTokensOf text.now tokens.items) }
     ensures spans { IfOk result (λ tokens. AreSpansIn text.now tokens.items) }
     ensures dimensions { IfOk result (λ tokens. BeginWithAt text.now tokens.items) }
+    ensures count { IfOk result (λ tokens. length tokens.items ≤ length text.now) }
     ensures fault { IfErr result (IsFaultOf text.now) }
+    ensures place { IfErr result (LiesIn text.now) }
 {
     let characters = characters(alloc, text)?;
     tokens_of(alloc, &characters)

@@ -1,8 +1,8 @@
-use Rattle.std.proofs.Common.{◌≡◌, ℕ, List, chars, length, IsUtf8, ap, ◌∙◌, refl}
+use Rattle.std.proofs.Common.{◌≡◌, ◌≤◌, ℕ, List, chars, length, IsUtf8, ap, ◌∙◌, refl, subst}
 use Rattle.std.proofs.lemmas.Str.{encodes-chars, scalars-chars}
 use Rattle.std.proofs.lemmas.Result.{IfOk-weaker, IfErr-weaker, err_from_is_err_and}
 use Rattle.vt_lex.specs.Lexing.{AreCharactersOf}
-use Rattle.vt_lex.proofs.SpanLemmas.{spans_of}
+use Rattle.vt_lex.proofs.SpanLemmas.{spans_of, fault_lies, token_count}
 use Rattle.vt_lex.proofs.lexer.lex.Goals as goal
 use Rattle.vt_lex.proofs.lexer.lex.Goals.{After-deref}
 
@@ -36,3 +36,10 @@ returns-clause-dimensions c = IfOk-weaker c.tokens_of.result _ _ (λ tokens lexe
 
 pub returns-clause-fault : goal.returns-clause-fault
 returns-clause-fault c = IfErr-weaker c.tokens_of.result _ _ (λ fault miss. (c.deref.result.now, read (goal.at.returns-clause-fault c).After-deref, miss)) c.tokens_of.ensures.fault
+
+pub returns-clause-place : goal.returns-clause-place
+returns-clause-place c = IfErr-weaker c.tokens_of.result _ _ (λ fault miss. fault_lies _ c.deref.result.now fault (read (goal.at.returns-clause-place c).After-deref) miss) c.tokens_of.ensures.fault
+
+pub returns-clause-count : goal.returns-clause-count
+returns-clause-count c = IfOk-weaker c.tokens_of.result _ _ (λ tokens lexes.
+    subst (λ n. length tokens.items ≤ n) (ap length (read (goal.at.returns-clause-count c).After-deref).encoded) (token_count 0 _ tokens.items lexes)) c.tokens_of.ensures.tokens
