@@ -1,0 +1,63 @@
+use Rattle.std.specs.Prelude.{◌≡◌, ◌⊎◌, ℕ, ◌<◌, nat_eq, List, Bool, true, false, Contains, AllPairs, slice_get, Some, map}
+use Rattle.std.specs.List.{All}
+use Rattle.vt_lex.specs.declared.span.Span.{Span}
+use Rattle.vt_syntax.specs.declared.core_expr.Core.{Core}
+use Rattle.vt_syntax.specs.declared.core_expr.Form.{Form, Literal, Name, Const, Hole}
+use Rattle.vt_syntax.specs.declared.leaf.Leaf.{Leaf}
+use Rattle.vt_syntax.specs.CoreTrees.{core, fun_of, app_of, let_of, let_rec_of, choice_of, fun_form, app_form, let_form, let_rec_form, choice_form}
+use Rattle.vt_type.specs.declared.change.ChangeLine.{ChangeLine}
+use Rattle.vt_type.specs.Plain.{plain_nodes}
+use Rattle.vt_type.specs.Canonical.{IsCanonical}
+use Rattle.vt_type.specs.Constants.{Constant, pair}
+use Rattle.vt_rules.specs.Principal.{IsTyped, PrincipalAt}
+
+-- the first of two where the test holds
+abbrev pub where_same : Bool → Core → Core → Core
+where_same true one other = one
+where_same false one other = other
+
+-- An expression with the node of a number replaced by a hole, which keeps the number and the span.
+abbrev pub with_hole : ℕ → ℕ → Span → Form → Core
+with_hole leaf node at (Literal literal) = where_same (nat_eq node leaf) (core node at Hole) (core node at (Literal literal))
+with_hole leaf node at (Name distance) = where_same (nat_eq node leaf) (core node at Hole) (core node at (Name distance))
+with_hole leaf node at (Const id) = where_same (nat_eq node leaf) (core node at Hole) (core node at (Const id))
+with_hole leaf node at Hole = core node at Hole
+with_hole leaf node at (fun_of n by body) = core node at (fun_form (with_hole leaf n by body))
+with_hole leaf node at (app_of n by function m to argument) =
+    core node at (app_form (with_hole leaf n by function) (with_hole leaf m to argument))
+with_hole leaf node at (let_of n by bound m to body) =
+    core node at (let_form (with_hole leaf n by bound) (with_hole leaf m to body))
+with_hole leaf node at (let_rec_of name name_at n by bound m to body) =
+    core node at (let_rec_form name name_at (with_hole leaf n by bound) (with_hole leaf m to body))
+with_hole leaf node at (choice_of dim n by left m to right) =
+    core node at (choice_form dim (with_hole leaf n by left) (with_hole leaf m to right))
+
+-- a program with a leaf replaced by a hole
+abbrev pub without : Leaf → Core → Core
+without leaf program = with_hole leaf.node program.node program.span program.form
+
+-- a leaf cures where the program has a type once a hole stands for the leaf
+abbrev pub Cures : List Constant → Core → Leaf → Type 0
+Cures K program leaf = IsTyped K (without leaf program)
+
+-- The change line of a leaf: its class, the type that the leaf is wanted to have, and the type that the
+-- program then has. The two are the canonical principal pair of the hole that stands for the leaf.
+pub record IsChangeOf (K : List Constant) (program : Core) (leaf : Leaf) (line : ChangeLine) : Type 0 where
+  pub class_is : line.class ≡ leaf.class
+  pub principal : PrincipalAt K leaf.node (without leaf program) line.wanted line.result
+  pub canonical : IsCanonical (pair line.wanted line.result)
+
+-- a smaller class first, then fewer nodes of the wanted type, then the earlier leaf
+abbrev pub ComesBefore : ChangeLine → ChangeLine → Type 0
+ComesBefore one other =
+    (one.class < other.class)
+    ⊎ ((one.class ≡ other.class)
+    × ((plain_nodes one.wanted < plain_nodes other.wanted)
+    ⊎ ((plain_nodes one.wanted ≡ plain_nodes other.wanted) × (one.leaf < other.leaf))))
+
+-- The changes of a program without choices, by its leaves: the change lines of exactly the leaves that
+-- cure, in order. No line comes before itself, so none stands twice.
+pub record IsChanges (K : List Constant) (program : Core) (leaves : List Leaf) (lines : List ChangeLine) : Type 0 where
+  pub lines_are : All (λ line. (leaf : Leaf) × (slice_get leaves line.leaf ≡ Some leaf) × IsChangeOf K program leaf line) lines
+  pub complete : (number : ℕ) (leaf : Leaf) → slice_get leaves number ≡ Some leaf → Cures K program leaf → Contains (map (λ line. line.leaf) lines) number
+  pub in_order : AllPairs ComesBefore lines
