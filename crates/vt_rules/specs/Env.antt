@@ -1,7 +1,7 @@
-use Rattle.std.specs.Prelude.{ℕ, zero, suc, Option, Some, None}
+use Rattle.std.specs.Prelude.{ℕ, zero, suc, List, Option, Some, None}
 use Rattle.vt_syntax.specs.declared.core_expr.Core.{Core}
 use Rattle.vt_type.specs.declared.plain.Plain.{Plain}
-use Rattle.vt_type.specs.Plain.{IsWellFormed}
+use Rattle.vt_type.specs.Plain.{IsWellFormed, substituted}
 
 -- What is known of the names round an expression, the newest at the right end. A name that was bound by `let` is
 -- known by its expression, and by the environment in which that expression stands. No scheme is kept:
@@ -36,3 +36,14 @@ abbrev mutual
   IsWellFormedEntry (Mono type) = IsWellFormed type
   IsWellFormedEntry (Def env bound) = IsWellFormedEnv env
   IsWellFormedEntry (Rec env bound) = IsWellFormedEnv env
+
+-- each variable replaced by its image, also within entries
+abbrev mutual
+  pub env_substituted : (List ℕ → Plain) → Env → Env
+  env_substituted images Empty = Empty
+  env_substituted images (env ▸ entry) = env_substituted images env ▸ entry_substituted images entry
+
+  pub entry_substituted : (List ℕ → Plain) → Entry → Entry
+  entry_substituted images (Mono type) = Mono (substituted images type)
+  entry_substituted images (Def env bound) = Def (env_substituted images env) bound
+  entry_substituted images (Rec env bound) = Rec (env_substituted images env) bound
