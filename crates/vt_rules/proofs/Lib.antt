@@ -1,3 +1,5 @@
 pub mod Entries
 pub mod WellFormedTypes
 pub mod Substitution
+pub mod Marking
+pub mod InOrder

@@ -1,8 +1,8 @@
-use Rattle.std.specs.Prelude.{ℕ, List}
+use Rattle.std.specs.Prelude.{◌≡◌, ◌⊎◌, ℕ, List}
 use Rattle.vt_lex.specs.declared.span.Span.{Span}
 use Rattle.vt_syntax.specs.declared.core_expr.Core.{Core}
-use Rattle.vt_syntax.specs.declared.core_expr.Form.{Hole}
-use Rattle.vt_syntax.specs.CoreTrees.{core, fun_form, app_form, let_form, let_rec_form}
+use Rattle.vt_syntax.specs.declared.core_expr.Form.{Form, Literal, Name, Const, Hole}
+use Rattle.vt_syntax.specs.CoreTrees.{core, fun_of, app_of, let_of, let_rec_of, choice_of, fun_form, app_form, let_form, let_rec_form}
 use Rattle.vt_type.specs.declared.plain.Plain.{Plain}
 use Rattle.vt_type.specs.Plain.{IsWellFormed}
 use Rattle.vt_type.specs.Constants.{Constant, ◌⇒◌}
@@ -48,3 +48,15 @@ pub data TyAt (K : List Constant) (mark : ℕ) : Env → Core → Plain → Plai
       → Ty K (env ▸ Mono some) bound some
       → TyAt K mark (env ▸ Rec env bound) body type wanted
       → TyAt K mark env (core n at (let_rec_form name name_at bound body)) type wanted
+
+-- the hole of this number is written in a form, whose own number is `node`
+abbrev pub HoldsHole : ℕ → ℕ → Form → Type 0
+HoldsHole mark node (Literal literal) = ⊥
+HoldsHole mark node (Name distance) = ⊥
+HoldsHole mark node (Const id) = ⊥
+HoldsHole mark node Hole = node ≡ mark
+HoldsHole mark node (fun_of n at body) = HoldsHole mark n body
+HoldsHole mark node (app_of n at function m by argument) = HoldsHole mark n function ⊎ HoldsHole mark m argument
+HoldsHole mark node (let_of n at bound m by body) = HoldsHole mark n bound ⊎ HoldsHole mark m body
+HoldsHole mark node (let_rec_of name name_at n at bound m by body) = HoldsHole mark n bound ⊎ HoldsHole mark m body
+HoldsHole mark node (choice_of dim n at left m by right) = HoldsHole mark n left ⊎ HoldsHole mark m right
