@@ -5,3 +5,5 @@ pub mod Marking
 pub mod InOrder
 pub mod UpTo
 pub mod UpToAll
+pub mod LeastFailing
+pub mod FirstJoin

@@ -1,0 +1,138 @@
+use Rattle.std.proofs.Common.{◌≡◌, ◌⊎◌, ℕ, zero, suc, ◌<◌, ◌≤◌, List, length, map, slice_get, Some, refl, sym, ap, ◌∙◌, inl, inr, subst, arith}
+use Rattle.std.proofs.lemmas.Bool.{cases_lt}
+use Rattle.std.proofs.lemmas.Option.{same_Some, none-some, slice_get_cases, slice_get-map}
+use Rattle.std.specs.Option.{option_map}
+use Rattle.vt_lex.specs.declared.span.Span.{Span}
+use Rattle.vt_syntax.specs.declared.core_expr.Core.{Core}
+use Rattle.vt_syntax.specs.declared.core_expr.Form.{Form, Literal, Name, Const, Hole}
+use Rattle.vt_syntax.specs.CoreTrees.{core, fun_of, app_of, let_of, let_rec_of, choice_of}
+use Rattle.vt_syntax.specs.Selection.{IsPlainForm}
+use Rattle.vt_syntax.specs.Scoping.{IsScoped, HasConstants}
+use Rattle.vt_type.specs.declared.plain.Plain.{Plain}
+use Rattle.vt_type.specs.declared.plain.Plain as plain
+use Rattle.vt_type.specs.Plain.{IsWellFormed, IsInstance}
+use Rattle.vt_type.specs.Constants.{Constant, IsTable, HasClosed, int, ◌⇒◌}
+use Rattle.vt_type.proofs.Renaming.{renaming-canonical}
+use Rattle.vt_rules.specs.Env.{Env, Entry, Empty, ◌▸◌, Mono, Def, Rec, entry_at, IsWellFormedEnv, IsWellFormedEntry}
+use Rattle.vt_rules.specs.Typing.{Ty, literal_type}
+use Rattle.vt_rules.specs.TypingUpTo.{TyUpTo}
+use Rattle.vt_rules.specs.TypingUpTo as to
+use Rattle.vt_rules.specs.Failing.{IsTypedUpTo, FirstFailing, HasJoin}
+use Rattle.vt_rules.proofs.Entries.{entry-well_formed}
+use Rattle.vt_rules.proofs.InOrder.{AllNodes, InOrder, in_order}
+use Rattle.vt_rules.proofs.WellFormedTypes.{literal-well_formed}
+use Rattle.vt_rules.proofs.UpTo.{ty-up_to}
+use Rattle.vt_rules.proofs.UpToAll.{AllInEnv, AllInEntry, up_to-ty}
+
+-- The first failing node is an application or a `let rec`: at any other node, a typing up to the number
+-- before gives one up to its own.
+
+-- how many names are known
+abbrev pub size : Env → ℕ
+size Empty = 0
+size (env ▸ entry) = suc (size env)
+
+-- a name that has its binder has an entry
+found : (env : Env) (distance : ℕ) → distance < size env → (entry : Entry) × (entry_at env distance ≡ Some entry)
+found Empty distance within = absurd (omega arith)
+found (env ▸ entry) zero within = (entry, refl)
+found (env ▸ entry) (suc distance) within = found env distance (omega arith)
+
+-- a weaker fact of all nodes
+weaker : (P Q : ℕ → Type 0) → ((n : ℕ) → P n → Q n) → (node : ℕ) (form : Form) → AllNodes P node form → AllNodes Q node form
+weaker P Q f node (Literal literal) h = f node h
+weaker P Q f node (Name distance) h = f node h
+weaker P Q f node (Const id) h = f node h
+weaker P Q f node Hole h = f node h
+weaker P Q f node (fun_of n at body) h = (f node h.0, weaker P Q f n body h.1)
+weaker P Q f node (app_of n at function m by argument) h = (f node h.0, weaker P Q f n function h.1, weaker P Q f m argument h.2)
+weaker P Q f node (let_of n at bound m by body) h = (f node h.0, weaker P Q f n bound h.1, weaker P Q f m body h.2)
+weaker P Q f node (let_rec_of name name_at n at bound m by body) h = (f node h.0, weaker P Q f n bound h.1, weaker P Q f m body h.2)
+weaker P Q f node (choice_of dim n at left m by right) h = (f node h.0, weaker P Q f n left h.1, weaker P Q f m right h.2)
+
+int_is : IsWellFormed int
+int_is = (refl, tt)
+
+-- where all nodes are above the number, each type is one of a typing up to it
+above_all : (K : List Constant) (k : ℕ) (env : Env) (node : ℕ) (at : Span) (form : Form) (type : Plain)
+    → AllNodes (λ n. k < n) node form → IsPlainForm form → IsWellFormed type → TyUpTo K k env (core node at form) type
+above_all K k env node at (Literal literal) type h plain w = to.literal_above env node at literal type h w
+above_all K k env node at (Name distance) type h plain w = to.name_above env node at distance type h w
+above_all K k env node at (Const id) type h plain w = to.constant_above env node at id type h w
+above_all K k env node at Hole type h plain w = to.hole_above env node at type h w
+above_all K k env node at (fun_of n by body) type h plain w =
+    to.fun_above env node at (core n by body) int int type h.0 w int_is (above_all K k (env ▸ Mono int) n by body int h.1 plain int_is)
+above_all K k env node at (app_of n by function m on argument) type h plain w =
+    to.app_above env node at (core n by function) (core m on argument) int int type h.0 w
+    (above_all K k env n by function int h.1 plain.0 int_is) (above_all K k env m on argument int h.2 plain.1 int_is)
+above_all K k env node at (let_of n by bound m on body) type h plain w =
+    to.let_above env node at (core n by bound) (core m on body) int int type h.0 w
+    (above_all K k env n by bound int h.1 plain.0 int_is) (above_all K k (env ▸ Def env (core n by bound)) m on body int h.2 plain.1 int_is)
+above_all K k env node at (let_rec_of name name_at n by bound m on body) type h plain w =
+    to.let_rec_above env node at name name_at (core n by bound) (core m on body) int int int type h.0 w int_is
+    (above_all K k (env ▸ Mono int) n by bound int h.1 plain.0 int_is) (above_all K k (env ▸ Rec env (core n by bound)) m on body int h.2 plain.1 int_is)
+above_all K k env node at (choice_of dim n by left m on right) type h plain w = absurd plain
+
+-- a constant of the table has its own closed type
+constant_typed : (K : List Constant) (id : ℕ) → id < length K → (closed : Plain) × HasClosed K id closed × IsInstance closed closed
+constant_typed K id within =
+    elim (slice_get_cases K id).1 [
+      | inl (c, _, at, _) ↦ (c.closed, slice_get-map (λ d. d.closed) K id ∙ ap (option_map (λ d. d.closed)) at, (renaming-canonical c.closed c.closed refl).0)
+      | inr past ↦ absurd (omega (arith, past.0))
+    ]
+
+module _ (K : List Constant) (table : IsTable K) where
+  -- each bound expression has a type
+  abbrev mutual
+    HasTypes : Env → Type 0
+    HasTypes Empty = Unit {0}
+    HasTypes (env ▸ entry) = HasTypes env × EntryHasType entry
+
+    EntryHasType : Entry → Type 0
+    EntryHasType (Mono type) = Unit {0}
+    EntryHasType (Def env bound) = (some : Plain) × Ty K env bound some
+    EntryHasType (Rec env bound) = (some : Plain) × IsWellFormed some × Ty K (env ▸ Mono some) bound some
+
+  has_type : (env : Env) (distance : ℕ) (entry : Entry) → HasTypes env → entry_at env distance ≡ Some entry → EntryHasType entry
+  has_type Empty distance entry h e = absurd (none-some entry e)
+  has_type (env ▸ other) zero entry h e = subst EntryHasType (same_Some other entry e) h.1
+  has_type (env ▸ other) (suc distance) entry h e = has_type env distance entry h.0 e
+
+  module _ (k : ℕ) where
+    -- what an environment is, in which the nodes before are checked
+    record Checked (env : Env) : Type 0 where
+      well_formed : IsWellFormedEnv env
+      within : AllInEnv (λ n. n ≤ k) env
+      has_types : HasTypes env
+
+    -- what an expression is, in such an environment
+    record Sound (env : Env) (node : ℕ) (form : Form) : Type 0 where
+      plain : IsPlainForm form
+      scoped : IsScoped (size env) form
+      constants : HasConstants (length K) form
+      order : InOrder node form
+      no_join : HasJoin (suc k) node form → ⊥
+
+    -- a node with its own number is typed as its name is bound
+    name_next : (env : Env) (n : ℕ) (by : Span) (distance : ℕ) → n ≤ suc k → Checked env → distance < size env → (type : Plain) × TyUpTo K (suc k) env (core n by (Name distance)) type
+    name_next env n by distance le c within = by_entry (found env distance within).0 (found env distance within).1
+      where
+        by_entry : (entry : Entry) → entry_at env distance ≡ Some entry → (type : Plain) × TyUpTo K (suc k) env (core n by (Name distance)) type
+        by_entry (Mono type) e = (type, to.name_mono env n by distance type le e)
+        by_entry (Def inner bound) e =
+            let (some, d) = has_type env distance (Def inner bound) c.has_types e in
+            (some, to.name_def env n by distance inner bound some le e (ty-up_to K table (suc k) inner bound some d (entry-well_formed env distance (Def inner bound) c.well_formed e)))
+        by_entry (Rec inner bound) e =
+            let (some, w, d) = has_type env distance (Rec inner bound) c.has_types e in
+            (some, to.name_rec env n by distance inner bound some le e w (ty-up_to K table (suc k) (inner ▸ Mono some) bound some d (entry-well_formed env distance (Rec inner bound) c.well_formed e, w)))
+
+    -- an expression that is checked already
+    checked : (env : Env) (e : Core) (type : Plain) → Checked env → AllNodes (λ n. n ≤ k) e.node e.form → TyUpTo K k env e type → TyUpTo K (suc k) env e type
+    checked env e type c all d = ty-up_to K table (suc k) env e type (up_to-ty K k env e type d c.within all) c.well_formed
+
+    under_mono : (env : Env) (type : Plain) → Checked env → IsWellFormed type → Checked (env ▸ Mono type)
+    under_mono env type c w = record { well_formed = (c.well_formed, w); within = (c.within, tt); has_types = (c.has_types, tt) }
+
+    -- the number of a node that is above one number and not above the next
+    is_next : (n : ℕ) → k < n → n ≤ suc k → n ≡ suc k
+    is_next n above le = omega arith
