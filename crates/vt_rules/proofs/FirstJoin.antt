@@ -136,3 +136,97 @@ module _ (K : List Constant) (table : IsTable K) where
     -- the number of a node that is above one number and not above the next
     is_next : (n : ℕ) → k < n → n ≤ suc k → n ≡ suc k
     is_next n above le = omega arith
+
+    -- nodes before one that is not above the number
+    before : (n node : ℕ) (form : Form) → n ≤ k → AllNodes (λ i. i < n) node form → AllNodes (λ i. i ≤ k) node form
+    before n node form le h = weaker (λ i. i < n) (λ i. i ≤ k) (λ i less. omega arith) node form h
+
+    -- nodes before the next number
+    up_to_here : (n node : ℕ) (form : Form) → n ≤ suc k → AllNodes (λ i. i < n) node form → AllNodes (λ i. i ≤ k) node form
+    up_to_here n node form le h = weaker (λ i. i < n) (λ i. i ≤ k) (λ i less. omega arith) node form h
+
+    -- nodes after one that is above the number
+    after : (n node : ℕ) (form : Form) → k < n → AllNodes (λ i. n < i) node form → AllNodes (λ i. suc k < i) node form
+    after n node form above h = weaker (λ i. n < i) (λ i. suc k < i) (λ i less. omega arith) node form h
+
+    under_def : (env : Env) (bound : Core) (some : Plain) → Checked env → AllNodes (λ i. i ≤ k) bound.node bound.form → TyUpTo K k env bound some → Checked (env ▸ Def env bound)
+    under_def env bound some c all d = record {
+      well_formed = (c.well_formed, c.well_formed);
+      within = (c.within, (c.within, all));
+      has_types = (c.has_types, (some, up_to-ty K k env bound some d c.within all));
+    }
+
+    under_rec : (env : Env) (bound : Core) (some : Plain) → Checked env → AllNodes (λ i. i ≤ k) bound.node bound.form → IsWellFormed some → TyUpTo K k (env ▸ Mono some) bound some → Checked (env ▸ Rec env bound)
+    under_rec env bound some c all w d = record {
+      well_formed = (c.well_formed, c.well_formed);
+      within = (c.within, (c.within, all));
+      has_types = (c.has_types, (some, w, up_to-ty K k (env ▸ Mono some) bound some d (c.within, tt) all));
+    }
+
+    -- one node more
+    step : (env : Env) (e : Core) (type : Plain) → TyUpTo K k env e type → Checked env → Sound env e.node e.form → (new : Plain) × TyUpTo K (suc k) env e new
+    step _ _ _ (to.literal env n by l le) c s = (_, to.literal env n by l (omega arith))
+    step _ _ _ (to.constant env n by id closed type le has instance) c s = (type, to.constant env n by id closed type (omega arith) has instance)
+    step _ _ _ (to.hole env n by type le w) c s = (type, to.hole env n by type (omega arith) w)
+    step _ _ _ (to.name_mono env n by distance type le e) c s = name_next env n by distance (omega arith) c s.scoped
+    step _ _ _ (to.name_def env n by distance inner bound type le e d) c s = name_next env n by distance (omega arith) c s.scoped
+    step _ _ _ (to.name_rec env n by distance inner bound type le e w d) c s = name_next env n by distance (omega arith) c s.scoped
+    step _ _ _ (to.fun env n by body from type le w d) c s =
+        (_, to.fun env n by body from type (omega arith) w (checked (env ▸ Mono from) body type (under_mono env from c w) (before n body.node body.form le s.order.0) d))
+    step _ _ _ (to.app env n by function argument from type le d f) c s =
+        (type, to.app env n by function argument from type (omega arith)
+        (checked env function (from ⇒ type) c (before n function.node function.form le s.order.0) d)
+        (checked env argument from c (before n argument.node argument.form le s.order.1) f))
+    step _ _ _ (to.let_in env n by bound body some type le d f) c s =
+        let all = before n bound.node bound.form le s.order.0 in
+        let sound : Sound (env ▸ Def env bound) body.node body.form = record { plain = s.plain.1; scoped = s.scoped.1; constants = s.constants.1; order = s.order.3; no_join = λ j. s.no_join (inr j) } in
+        let (new, g) = step (env ▸ Def env bound) body type f (under_def env bound some c all d) sound in
+        (new, to.let_in env n by bound body some new (omega arith) (checked env bound some c all d) g)
+    step _ _ _ (to.let_rec env n by name name_at bound body some type le w d f) c s =
+        let all = before n bound.node bound.form le s.order.0 in
+        let sound : Sound (env ▸ Rec env bound) body.node body.form = record { plain = s.plain.1; scoped = s.scoped.1; constants = s.constants.1; order = s.order.3; no_join = λ j. s.no_join (inr (inr j)) } in
+        let (new, g) = step (env ▸ Rec env bound) body type f (under_rec env bound some c all w d) sound in
+        (new, to.let_rec env n by name name_at bound body some new (omega arith) w (checked (env ▸ Mono some) bound some (under_mono env some c w) all d) g)
+    step _ _ _ (to.literal_above env n by l type above w) c s =
+        elim (cases_lt (suc k) n) [ inl past ↦ (type, to.literal_above env n by l type past w) | inr here ↦ (_, to.literal env n by l here) ]
+    step _ _ _ (to.constant_above env n by id type above w) c s =
+        elim (cases_lt (suc k) n) [
+          | inl past ↦ (type, to.constant_above env n by id type past w)
+          | inr here ↦ (let (closed, has, instance) = constant_typed K id s.constants in (closed, to.constant env n by id closed closed here has instance))
+        ]
+    step _ _ _ (to.hole_above env n by type above w) c s =
+        elim (cases_lt (suc k) n) [ inl past ↦ (type, to.hole_above env n by type past w) | inr here ↦ (type, to.hole env n by type here w) ]
+    step _ _ _ (to.name_above env n by distance type above w) c s =
+        elim (cases_lt (suc k) n) [ inl past ↦ (type, to.name_above env n by distance type past w) | inr here ↦ name_next env n by distance here c s.scoped ]
+    step _ _ _ (to.fun_above env n by body from other type above w v d) c s =
+        let sound : Sound (env ▸ Mono from) body.node body.form = record { plain = s.plain; scoped = s.scoped; constants = s.constants; order = s.order.1; no_join = s.no_join } in
+        let (new, g) = step (env ▸ Mono from) body other d (under_mono env from c v) sound in
+        elim (cases_lt (suc k) n) [
+          | inl past ↦ (type, to.fun_above env n by body from new type past w v g)
+          | inr here ↦ (_, to.fun env n by body from other here v (checked (env ▸ Mono from) body other (under_mono env from c v) (up_to_here n body.node body.form here s.order.0) d))
+        ]
+    step _ _ _ (to.app_above env n by function argument one other type above w d f) c s =
+        let sound : Sound env function.node function.form = record { plain = s.plain.0; scoped = s.scoped.0; constants = s.constants.0; order = s.order.2; no_join = λ j. s.no_join (inr (inl j)) } in
+        let sound' : Sound env argument.node argument.form = record { plain = s.plain.1; scoped = s.scoped.1; constants = s.constants.1; order = s.order.3; no_join = λ j. s.no_join (inr (inr j)) } in
+        let (new, g) = step env function one d c sound in
+        let (new', j) = step env argument other f c sound' in
+        elim (cases_lt (suc k) n) [
+          | inl past ↦ (type, to.app_above env n by function argument new new' type past w g j)
+          | inr here ↦ absurd (s.no_join (inl (is_next n above here)))
+        ]
+    step _ _ _ (to.let_above env n by bound body one other type above w d f) c s =
+        let sound : Sound env bound.node bound.form = record { plain = s.plain.0; scoped = s.scoped.0; constants = s.constants.0; order = s.order.2; no_join = λ j. s.no_join (inl j) } in
+        let (new, g) = step env bound one d c sound in
+        let j = above_all K (suc k) (env ▸ Def env bound) body.node body.span body.form int (after n body.node body.form above s.order.1) s.plain.1 int_is in
+        elim (cases_lt (suc k) n) [
+          | inl past ↦ (type, to.let_above env n by bound body new int type past w g j)
+          | inr here ↦ (int, to.let_in env n by bound body one int here (checked env bound one c (up_to_here n bound.node bound.form here s.order.0) d) j)
+        ]
+    step _ _ _ (to.let_rec_above env n by name name_at bound body from one other type above w v d f) c s =
+        let sound : Sound (env ▸ Mono from) bound.node bound.form = record { plain = s.plain.0; scoped = s.scoped.0; constants = s.constants.0; order = s.order.2; no_join = λ j. s.no_join (inr (inl j)) } in
+        let (new, g) = step (env ▸ Mono from) bound one d (under_mono env from c v) sound in
+        let j = above_all K (suc k) (env ▸ Rec env bound) body.node body.span body.form int (after n body.node body.form above s.order.1) s.plain.1 int_is in
+        elim (cases_lt (suc k) n) [
+          | inl past ↦ (type, to.let_rec_above env n by name name_at bound body from new int type past w v g j)
+          | inr here ↦ absurd (s.no_join (inl (is_next n above here)))
+        ]
