@@ -1,6 +1,7 @@
 pub mod Entries
 pub mod WellFormedTypes
 pub mod Substitution
+pub mod Inversion
 pub mod Marking
 pub mod InOrder
 pub mod UpTo

@@ -6,3 +6,4 @@ pub mod Principal
 pub mod Meaning
 pub mod Failing
 pub mod Changes
+pub mod Generalising
