@@ -8,3 +8,4 @@ pub mod UpTo
 pub mod UpToAll
 pub mod LeastFailing
 pub mod FirstJoin
+pub mod GeneralisingIsTyping

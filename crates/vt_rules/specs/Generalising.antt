@@ -7,7 +7,7 @@ use Rattle.vt_syntax.specs.CoreTrees.{core, fun_form, app_form, let_form, let_re
 use Rattle.vt_type.specs.declared.plain.Plain.{Plain}
 use Rattle.vt_type.specs.Plain.{IsWellFormed, IsInstance, substituted}
 use Rattle.vt_type.specs.Constants.{Constant, HasClosed, ◌⇒◌}
-use Rattle.vt_rules.specs.Env.{Env, Entry, Empty, ◌▸◌, Mono, Def, Rec}
+use Rattle.vt_rules.specs.Env.{Env, Entry, Empty, ◌▸◌, Mono, Def, Rec, IsWellFormedEnv}
 use Rattle.vt_rules.specs.Typing.{Ty, literal_type}
 
 -- Typing with schemes, after Damas and Milner (1982): `let` chooses one type of the bound expression, and
@@ -98,3 +98,7 @@ pub data Gen (K : List Constant) : Schemes → Core → Plain → Type 0 where
 pub record MostGeneral (K : List Constant) (env : Env) (e : Core) (type : Plain) : Type 0 where
   pub typed : Ty K env e type
   pub general : (other : Plain) → Ty K env e other → IsInstanceKeeping (λ images. Keeps images env) other type
+
+-- every expression with a type in an environment has a most general type there
+abbrev pub Most : List Constant → Type 0
+Most K = (env : Env) (e : Core) (type : Plain) → IsWellFormedEnv env → Ty K env e type → (general : Plain) × MostGeneral K env e general
