@@ -8,4 +8,6 @@ pub mod UpTo
 pub mod UpToAll
 pub mod LeastFailing
 pub mod FirstJoin
+pub mod Standing
 pub mod GeneralisingIsTyping
+pub mod TypingGeneralises
