@@ -1,10 +1,10 @@
-use Rattle.std.proofs.Common.{◌≡◌, ℕ, zero, suc, List, map, All, slice_get, Option, Some, None, IfSome, refl, sym, ap, subst, ◌∙◌}
+use Rattle.std.proofs.Common.{◌≡◌, ℕ, zero, suc, List, slice_get, Option, Some, None, refl, sym, ap, subst, ◌∙◌}
 use Rattle.std.specs.Option.{option_map}
 use Rattle.std.proofs.lemmas.Option.{slice_get-map, slice_get_within, get_or_from_slice_get, same_Some, none-some}
 use Rattle.vt_type.specs.declared.plain.Plain.{Plain}
 use Rattle.vt_type.specs.Plain.{IsWellFormed}
 use Rattle.vt_type.specs.Constants.{Constant, HasClosed, IsTable}
-use Rattle.vt_rules.specs.Env.{Env, Entry, Empty, ◌▸◌, Mono, Def, Rec, entry_at, IsWellFormedEnv, IsWellFormedEntry, env_substituted, entry_substituted}
+use Rattle.vt_rules.specs.Env.{Env, Entry, Empty, ◌▸◌, entry_at, IsWellFormedEnv, IsWellFormedEntry, env_substituted, entry_substituted}
 
 -- what is looked up in a well-formed environment is well formed
 pub entry-well_formed : (env : Env) (distance : ℕ) (entry : Entry) → IsWellFormedEnv env → entry_at env distance ≡ Some entry → IsWellFormedEntry entry

@@ -1,4 +1,4 @@
-use Rattle.std.proofs.Common.{◌≡◌, ◌⊎◌, ℕ, zero, suc, ◌<◌, ◌≤◌, List, length, map, slice_get, Some, refl, sym, ap, ◌∙◌, inl, inr, subst, arith}
+use Rattle.std.proofs.Common.{◌≡◌, ◌⊎◌, ℕ, zero, suc, ◌<◌, ◌≤◌, List, length, Some, refl, ap, ◌∙◌, inl, inr, subst, arith}
 use Rattle.std.proofs.lemmas.Bool.{cases_lt, cases_eq}
 use Rattle.std.proofs.lemmas.Option.{same_Some, none-some, slice_get_cases, slice_get-map}
 use Rattle.std.specs.Option.{option_map}
@@ -10,20 +10,18 @@ use Rattle.vt_syntax.specs.Selection.{IsPlainForm}
 use Rattle.vt_syntax.specs.Checking.{Rise, numbers_of}
 use Rattle.vt_syntax.specs.Scoping.{IsScoped, HasConstants}
 use Rattle.vt_type.specs.declared.plain.Plain.{Plain}
-use Rattle.vt_type.specs.declared.plain.Plain as plain
 use Rattle.vt_type.specs.Plain.{IsWellFormed, IsInstance}
 use Rattle.vt_type.specs.Constants.{Constant, IsTable, HasClosed, int, ◌⇒◌}
 use Rattle.vt_type.proofs.Renaming.{renaming-canonical}
-use Rattle.vt_rules.specs.Env.{Env, Entry, Empty, ◌▸◌, Mono, Def, Rec, entry_at, IsWellFormedEnv, IsWellFormedEntry}
-use Rattle.vt_rules.specs.Typing.{Ty, literal_type}
+use Rattle.vt_rules.specs.Env.{Env, Entry, Empty, ◌▸◌, Mono, Def, Rec, entry_at, IsWellFormedEnv}
+use Rattle.vt_rules.specs.Typing.{Ty}
 use Rattle.vt_rules.specs.TypingUpTo.{TyUpTo}
 use Rattle.vt_rules.specs.TypingUpTo as to
 use Rattle.vt_rules.specs.Failing.{IsTypedUpTo, FirstFailing, HasJoin}
 use Rattle.vt_rules.proofs.Entries.{entry-well_formed}
 use Rattle.vt_rules.proofs.InOrder.{AllNodes, InOrder, in_order}
-use Rattle.vt_rules.proofs.WellFormedTypes.{literal-well_formed}
 use Rattle.vt_rules.proofs.UpTo.{ty-up_to}
-use Rattle.vt_rules.proofs.UpToAll.{AllInEnv, AllInEntry, up_to-ty}
+use Rattle.vt_rules.proofs.UpToAll.{AllInEnv, up_to-ty}
 
 -- The first failing node is an application or a `let rec`: at any other node, a typing up to the number
 -- before gives one up to its own.
@@ -180,10 +178,12 @@ module _ (K : List Constant) (table : IsTable K) where
     step _ _ _ (to.name_rec env n by distance inner bound type le e w d) c s = name_typed (suc k) env n by distance (omega arith) c.well_formed c.has_types s.scoped
     step _ _ _ (to.fun env n by body from type le w d) c s =
         (_, to.fun env n by body from type (omega arith) w (checked (env ▸ Mono from) body type (under_mono env from c w) (before n body.node body.form le s.order.0) d))
-    step _ _ _ (to.app env n by function argument from type le d f) c s =
-        (type, to.app env n by function argument from type (omega arith)
-        (checked env function (from ⇒ type) c (before n function.node function.form le s.order.0) d)
-        (checked env argument from c (before n argument.node argument.form le s.order.1) f))
+    step _ _ _ (to.app env n by function argument from type le d f) c s = (
+      type,
+      to.app env n by function argument from type (omega arith)
+          (checked env function (from ⇒ type) c (before n function.node function.form le s.order.0) d)
+          (checked env argument from c (before n argument.node argument.form le s.order.1) f),
+    )
     step _ _ _ (to.let_in env n by bound body some type le d f) c s =
         let all = before n bound.node bound.form le s.order.0 in
         let sound : Sound (suc k) (env ▸ Def env bound) body.node body.form = record { plain = s.plain.1; scoped = s.scoped.1; constants = s.constants.1; order = s.order.3; no_join = λ j. s.no_join (inr j) } in

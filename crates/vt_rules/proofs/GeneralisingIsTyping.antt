@@ -1,20 +1,18 @@
-use Rattle.std.proofs.Common.{◌≡◌, ℕ, zero, suc, List, Some, refl, sym, ap, subst}
-use Rattle.std.proofs.lemmas.Option.{same_Some, none-some}
+use Rattle.std.proofs.Common.{◌≡◌, ℕ, List, Some, subst}
 use Rattle.vt_lex.specs.declared.span.Span.{Span}
 use Rattle.vt_syntax.specs.declared.core_expr.Core.{Core}
-use Rattle.vt_syntax.specs.declared.core_expr.Form.{Form, Literal, Name, Const, Hole}
-use Rattle.vt_syntax.specs.CoreTrees.{core, fun_of, app_of, let_of, let_rec_of, choice_of, let_rec_form}
+use Rattle.vt_syntax.specs.declared.core_expr.Form.{Name}
+use Rattle.vt_syntax.specs.CoreTrees.{core}
 use Rattle.vt_type.specs.declared.plain.Plain.{Plain}
 use Rattle.vt_type.specs.Plain.{IsWellFormed, substituted}
-use Rattle.vt_type.specs.Constants.{Constant, ◌⇒◌}
+use Rattle.vt_type.specs.Constants.{Constant}
 use Rattle.vt_type.proofs.Substituting.{substituted-well_formed}
-use Rattle.vt_rules.specs.Env.{Env, Entry, Empty, ◌▸◌, Mono, Def, Rec, entry_at, IsWellFormedEnv, env_substituted, entry_substituted}
+use Rattle.vt_rules.specs.Env.{Env, Entry, Empty, ◌▸◌, Mono, Def, Rec, entry_at}
 use Rattle.vt_rules.specs.Typing.{Ty}
 use Rattle.vt_rules.specs.Typing as ty
 use Rattle.vt_rules.specs.Generalising.{Schemes, Scheme, Single, Poly, Start, ◌▹◌, scheme_at, KeepsSchemes, Keeps, IsInstanceKeeping, Gen, MostGeneral, Most}
 use Rattle.vt_rules.specs.Generalising as gen
 use Rattle.vt_rules.proofs.Standing.{StandFor, StandsFor, start, more, single, poly_def, poly_rec, entry_of, unchanged}
-use Rattle.vt_rules.proofs.Inversion.{of_known, of_name, Allows, of_fun, of_app, of_let, of_let_rec, of_literal, of_constant, of_hole}
 use Rattle.vt_rules.proofs.Substitution.{ty-substituted}
 
 -- What is typed with schemes is typed.
@@ -35,7 +33,7 @@ module _ (K : List Constant) where
   poly-ty env n at distance _ _ type _ (poly_rec inner own bound general h d) e i =
       let moved = ty-substituted i.images i.well_formed K (own ▸ Mono general) bound general d.1 in
       let there : Ty K (own ▸ Mono (substituted i.images general)) bound (substituted i.images general) =
-        subst (λ x. Ty K (x ▸ Mono (substituted i.images general)) bound (substituted i.images general)) (unchanged HasDef HasRec i.images inner own h i.keeps) moved in
+      subst (λ x. Ty K (x ▸ Mono (substituted i.images general)) bound (substituted i.images general)) (unchanged HasDef HasRec i.images inner own h i.keeps) moved in
       ty.name_rec env n at distance own bound type e (subst IsWellFormed i.same (substituted-well_formed i.images i.well_formed general d.0)) (subst (λ x. Ty K (own ▸ Mono x) bound x) i.same there)
 
   gen-ty : (schemes : Schemes) (e : Core) (type : Plain) → Gen K schemes e type → (env : Env) → StandFor HasDef HasRec schemes env → Ty K env e type

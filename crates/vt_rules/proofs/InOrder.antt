@@ -1,4 +1,4 @@
-use Rattle.std.proofs.Common.{◌≡◌, ℕ, zero, suc, ◌+◌, ◌<◌, ◌≤◌, List, [], ◌∷◌, ◌++◌, length, get_or, All, AllPairs, refl, sym, subst, length-append, arith}
+use Rattle.std.proofs.Common.{ℕ, zero, suc, ◌+◌, ◌<◌, List, [], ◌∷◌, ◌++◌, length, get_or, All, AllPairs, subst, length-append, arith}
 use Rattle.std.proofs.lemmas.List.{get_or_append_left, get_or-append-add}
 use Rattle.vt_syntax.specs.declared.core_expr.Form.{Form, Literal, Name, Const, Hole}
 use Rattle.vt_syntax.specs.CoreTrees.{fun_of, app_of, let_of, let_rec_of, choice_of}
@@ -77,9 +77,11 @@ all_nodes P node Hole h = All-head P node [] h
 all_nodes P node (fun_of n at body) h =
     (All-head P node [] (All-right P (numbers n body) (node ∷ []) h), all_nodes P n body (All-left P (numbers n body) (node ∷ []) h))
 all_nodes P node (app_of n at function m by argument) h =
-    let both = All-left P (numbers n function ++ numbers m argument) (node ∷ []) h in
-    (All-head P node [] (All-right P (numbers n function ++ numbers m argument) (node ∷ []) h), all_nodes P n function (All-left P (numbers n function) (numbers m argument) both),
-    all_nodes P m argument (All-right P (numbers n function) (numbers m argument) both))
+    let both = All-left P (numbers n function ++ numbers m argument) (node ∷ []) h in (
+      All-head P node [] (All-right P (numbers n function ++ numbers m argument) (node ∷ []) h),
+      all_nodes P n function (All-left P (numbers n function) (numbers m argument) both),
+      all_nodes P m argument (All-right P (numbers n function) (numbers m argument) both),
+    )
 all_nodes P node (let_of n at bound m by body) h =
     let rest = All-right P (numbers n bound) (node ∷ numbers m body) h in
     (All-head P node (numbers m body) rest, all_nodes P n bound (All-left P (numbers n bound) (node ∷ numbers m body) h), all_nodes P m body (All-tail P node (numbers m body) rest))
@@ -87,9 +89,11 @@ all_nodes P node (let_rec_of name name_at n at bound m by body) h =
     let rest = All-right P (numbers n bound) (node ∷ numbers m body) h in
     (All-head P node (numbers m body) rest, all_nodes P n bound (All-left P (numbers n bound) (node ∷ numbers m body) h), all_nodes P m body (All-tail P node (numbers m body) rest))
 all_nodes P node (choice_of dim n at left m by right) h =
-    let both = All-left P (numbers n left ++ numbers m right) (node ∷ []) h in
-    (All-head P node [] (All-right P (numbers n left ++ numbers m right) (node ∷ []) h), all_nodes P n left (All-left P (numbers n left) (numbers m right) both),
-    all_nodes P m right (All-right P (numbers n left) (numbers m right) both))
+    let both = All-left P (numbers n left ++ numbers m right) (node ∷ []) h in (
+      All-head P node [] (All-right P (numbers n left ++ numbers m right) (node ∷ []) h),
+      all_nodes P n left (All-left P (numbers n left) (numbers m right) both),
+      all_nodes P m right (All-right P (numbers n left) (numbers m right) both),
+    )
 
 -- a binding between its two parts
 module _ (node n m : ℕ) (bound body : Form) (h : Rise (numbers n bound ++ node ∷ numbers m body)) where
@@ -118,10 +122,12 @@ in_order node (fun_of n at body) h =
 in_order node (app_of n at function m by argument) h =
     let R = λ (i j : ℕ). i < j in
     let parts = Pairs-left R (numbers n function ++ numbers m argument) (node ∷ []) h in
-    let both = Pairs-before R (numbers n function ++ numbers m argument) [] node h in
-    (all_nodes (λ i. i < node) n function (All-left (λ i. i < node) (numbers n function) (numbers m argument) both),
-    all_nodes (λ i. i < node) m argument (All-right (λ i. i < node) (numbers n function) (numbers m argument) both),
-    in_order n function (Pairs-left R (numbers n function) (numbers m argument) parts), in_order m argument (Pairs-right R (numbers n function) (numbers m argument) parts))
+    let both = Pairs-before R (numbers n function ++ numbers m argument) [] node h in (
+      all_nodes (λ i. i < node) n function (All-left (λ i. i < node) (numbers n function) (numbers m argument) both),
+      all_nodes (λ i. i < node) m argument (All-right (λ i. i < node) (numbers n function) (numbers m argument) both),
+      in_order n function (Pairs-left R (numbers n function) (numbers m argument) parts),
+      in_order m argument (Pairs-right R (numbers n function) (numbers m argument) parts),
+    )
 in_order node (let_of n at bound m by body) h =
     (bound_before node n m bound body h, body_after node n m bound body h, in_order n bound (bound_rises node n m bound body h), in_order m body (body_rises node n m bound body h))
 in_order node (let_rec_of name name_at n at bound m by body) h =

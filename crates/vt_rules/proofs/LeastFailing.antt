@@ -1,11 +1,8 @@
 use Rattle.std.proofs.Common.{◌≡◌, ◌⊎◌, ℕ, zero, suc, ◌<◌, ◌≤◌, List, inl, inr, sym, subst, arith}
-use Rattle.std.proofs.Math.Nat.{eq-or-lt_of_le}
 use Rattle.std.proofs.lemmas.Bool.{cases_lt, cases_eq}
 use Rattle.vt_syntax.specs.declared.core_expr.Core.{Core}
-use Rattle.vt_type.specs.declared.plain.Plain.{Plain}
 use Rattle.vt_type.specs.Constants.{Constant, IsTable}
 use Rattle.vt_rules.specs.Env.{Empty}
-use Rattle.vt_rules.specs.Typing.{Ty}
 use Rattle.vt_rules.specs.Principal.{IsTyped}
 use Rattle.vt_rules.specs.Failing.{IsTypedUpTo, FirstFailing}
 use Rattle.vt_rules.proofs.UpTo.{ty-up_to}

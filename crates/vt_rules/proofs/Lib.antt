@@ -11,3 +11,4 @@ pub mod FirstJoin
 pub mod Standing
 pub mod GeneralisingIsTyping
 pub mod TypingGeneralises
+pub mod PrincipalForms

@@ -1,10 +1,10 @@
-use Rattle.std.proofs.Common.{◌≡◌, ◌⊎◌, ℕ, List, inl, inr, sym, subst}
+use Rattle.std.proofs.Common.{ℕ, List, inl, inr, sym, subst}
 use Rattle.vt_syntax.specs.declared.core_expr.Core.{Core}
 use Rattle.vt_syntax.specs.declared.core_expr.Form.{Hole}
 use Rattle.vt_syntax.specs.CoreTrees.{core}
 use Rattle.vt_type.specs.declared.plain.Plain.{Plain}
 use Rattle.vt_type.specs.Constants.{Constant, ◌⇒◌}
-use Rattle.vt_rules.specs.Env.{Env, ◌▸◌, Mono, Def, Rec}
+use Rattle.vt_rules.specs.Env.{Env}
 use Rattle.vt_rules.specs.Typing.{Ty}
 use Rattle.vt_rules.specs.Typing as ty
 use Rattle.vt_rules.specs.TypingAt.{TyAt, HoldsHole}

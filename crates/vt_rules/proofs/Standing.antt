@@ -1,20 +1,10 @@
-use Rattle.std.proofs.Common.{◌≡◌, ℕ, zero, suc, List, Some, refl, sym, ap, subst}
+use Rattle.std.proofs.Common.{◌≡◌, ℕ, zero, suc, List, Some, refl, ap, subst}
 use Rattle.std.proofs.lemmas.Option.{same_Some, none-some}
-use Rattle.vt_lex.specs.declared.span.Span.{Span}
 use Rattle.vt_syntax.specs.declared.core_expr.Core.{Core}
-use Rattle.vt_syntax.specs.declared.core_expr.Form.{Form, Literal, Name, Const, Hole}
-use Rattle.vt_syntax.specs.CoreTrees.{core, fun_of, app_of, let_of, let_rec_of, choice_of, let_rec_form}
 use Rattle.vt_type.specs.declared.plain.Plain.{Plain}
-use Rattle.vt_type.specs.Plain.{IsWellFormed, substituted}
-use Rattle.vt_type.specs.Constants.{Constant, ◌⇒◌}
-use Rattle.vt_type.proofs.Substituting.{substituted-well_formed}
-use Rattle.vt_rules.specs.Env.{Env, Entry, Empty, ◌▸◌, Mono, Def, Rec, entry_at, IsWellFormedEnv, env_substituted, entry_substituted}
-use Rattle.vt_rules.specs.Typing.{Ty}
-use Rattle.vt_rules.specs.Typing as ty
+use Rattle.vt_rules.specs.Env.{Env, Entry, Empty, ◌▸◌, Mono, Def, Rec, entry_at, env_substituted, entry_substituted}
 use Rattle.vt_rules.specs.Generalising.{Schemes, Scheme, Single, Poly, Start, ◌▹◌, scheme_at, KeepsSchemes, Keeps, IsInstanceKeeping, Gen, MostGeneral, Most}
 use Rattle.vt_rules.specs.Generalising as gen
-use Rattle.vt_rules.proofs.Inversion.{of_known, of_name, Allows, of_fun, of_app, of_let, of_let_rec, of_literal, of_constant, of_hole}
-use Rattle.vt_rules.proofs.Substitution.{ty-substituted}
 
 -- Schemes stand for an environment, where each scheme's type is, in a given sense, one of its name.
 module _ (OfDef OfRec : Env → Core → Plain → Type 0) where

@@ -9,7 +9,7 @@ use Rattle.vt_type.specs.Plain.{IsWellFormed, IsInstance, substituted}
 use Rattle.vt_type.specs.Constants.{Constant}
 use Rattle.vt_type.proofs.Substituting.{substituted-well_formed}
 use Rattle.vt_type.proofs.Renaming.{substituted-substituted}
-use Rattle.vt_rules.specs.Env.{Env, Mono, Def, Rec, env_substituted, entry_substituted}
+use Rattle.vt_rules.specs.Env.{Env, Mono, Def, Rec, env_substituted}
 use Rattle.vt_rules.specs.Typing.{Ty, literal_type}
 use Rattle.vt_rules.specs.Typing as ty
 use Rattle.vt_rules.proofs.Entries.{entry_at-substituted}

@@ -1,19 +1,16 @@
-use Rattle.std.proofs.Common.{◌≡◌, ◌⊎◌, ℕ, zero, suc, ◌<◌, ◌≤◌, List, Some, inl, inr, subst, arith}
-use Rattle.std.proofs.lemmas.Bool.{cases_lt}
+use Rattle.std.proofs.Common.{◌≡◌, ◌↔◌, ℕ, zero, suc, ◌≤◌, List, All, Some, subst, arith}
 use Rattle.std.proofs.lemmas.Option.{same_Some, none-some}
 use Rattle.vt_syntax.specs.declared.core_expr.Core.{Core}
+use Rattle.vt_syntax.specs.Checking.{numbers_of}
 use Rattle.vt_type.specs.declared.plain.Plain.{Plain}
-use Rattle.vt_type.specs.Plain.{IsWellFormed}
 use Rattle.vt_type.specs.Constants.{Constant, IsTable, ◌⇒◌}
-use Rattle.vt_rules.specs.Env.{Env, Entry, Empty, ◌▸◌, Mono, Def, Rec, entry_at, IsWellFormedEnv}
+use Rattle.vt_rules.specs.Env.{Env, Entry, Empty, ◌▸◌, Mono, Def, Rec, entry_at}
 use Rattle.vt_rules.specs.Typing.{Ty}
 use Rattle.vt_rules.specs.Typing as ty
 use Rattle.vt_rules.specs.TypingUpTo.{TyUpTo}
 use Rattle.vt_rules.specs.TypingUpTo as to
-use Rattle.vt_rules.proofs.Entries.{entry-well_formed}
-use Rattle.vt_rules.proofs.InOrder.{AllNodes}
-use Rattle.vt_rules.proofs.WellFormedTypes.{literal-well_formed}
-use Rattle.vt_rules.proofs.UpTo.{up_to-smaller, up_to-well_formed}
+use Rattle.vt_rules.proofs.InOrder.{AllNodes, all_nodes}
+use Rattle.vt_rules.proofs.UpTo.{ty-up_to}
 
 -- Typing up to a number that no node passes.
 
@@ -61,3 +58,11 @@ module _ (K : List Constant) (k : ℕ) where
   up_to-ty _ _ _ (to.app_above env n by function argument one other type above w d f) h all = absurd (omega arith)
   up_to-ty _ _ _ (to.let_above env n by bound body one other type above w d f) h all = absurd (omega arith)
   up_to-ty _ _ _ (to.let_rec_above env n by name name_at bound body from one other type above w v d f) h all = absurd (omega arith)
+
+-- the same of a whole program
+pub whole_up_to : (K : List Constant) → IsTable K → (k : ℕ) (program : Core) (type : Plain)
+    → All (λ number. number ≤ k) (numbers_of program) → TyUpTo K k Empty program type ↔ Ty K Empty program type
+whole_up_to K table k program type all = (
+  λ d. up_to-ty K k Empty program type d tt (all_nodes (λ number. number ≤ k) program.node program.form all),
+  λ d. ty-up_to K table k Empty program type d tt,
+)

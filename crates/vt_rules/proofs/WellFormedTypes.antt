@@ -1,4 +1,4 @@
-use Rattle.std.proofs.Common.{◌≡◌, ℕ, List, refl, subst}
+use Rattle.std.proofs.Common.{List, refl, subst}
 use Rattle.vt_syntax.specs.declared.core_expr.Core.{Core}
 use Rattle.vt_syntax.specs.declared.core_expr.Lit.{Lit}
 use Rattle.vt_syntax.specs.declared.core_expr.Lit.TheVariants.{Number, Quoted, Truth}
@@ -6,7 +6,7 @@ use Rattle.vt_type.specs.declared.plain.Plain.{Plain}
 use Rattle.vt_type.specs.Plain.{IsWellFormed, IsInstance}
 use Rattle.vt_type.specs.Constants.{Constant, IsTable, ◌⇒◌}
 use Rattle.vt_type.proofs.Substituting.{substituted-well_formed}
-use Rattle.vt_rules.specs.Env.{Env, Mono, Def, Rec, IsWellFormedEnv}
+use Rattle.vt_rules.specs.Env.{Env, Mono, Def, IsWellFormedEnv}
 use Rattle.vt_rules.specs.Typing.{Ty, literal_type}
 use Rattle.vt_rules.specs.Typing as ty
 use Rattle.vt_rules.proofs.Entries.{entry-well_formed, closed-well_formed}

@@ -25,7 +25,6 @@ mutual
     ◌▹◌ : Schemes → Scheme → Schemes
 
 infixl 10 ◌▹◌
-
 -- the scheme of a name, by the number of binders that stand between the name and its own
 abbrev pub scheme_at : Schemes → ℕ → Option Scheme
 scheme_at Start distance = None
