@@ -12,3 +12,6 @@ pub mod Standing
 pub mod GeneralisingIsTyping
 pub mod TypingGeneralises
 pub mod PrincipalForms
+pub mod Shapes
+pub mod Untyped
+pub mod FailingExamples

@@ -7,3 +7,5 @@ pub mod Meaning
 pub mod Failing
 pub mod Changes
 pub mod Generalising
+pub mod Examples
+pub mod Witnesses
