@@ -15,3 +15,5 @@ pub mod PrincipalForms
 pub mod Shapes
 pub mod Untyped
 pub mod FailingExamples
+pub mod Uses
+pub mod MeaningExamples

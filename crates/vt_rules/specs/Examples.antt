@@ -1,4 +1,4 @@
-use Rattle.std.specs.Prelude.{ℕ, Bool, true, false, List, [], ◌∷◌}
+use Rattle.std.specs.Prelude.{ℕ, ◌+◌, Bool, true, false, List, [], ◌∷◌}
 use Rattle.vt_lex.specs.declared.span.Span.{Span}
 use Rattle.vt_syntax.specs.declared.core_expr.Core.{Core}
 use Rattle.vt_syntax.specs.declared.core_expr.Form.{Literal, Name, Const}
@@ -54,16 +54,19 @@ alone main = record { defs = []; main = main }
 abbrev pub number_or_itself : CoreProgram
 number_or_itself = alone (lambda 4 (either 3 (name 1 0) (number 2 1)))
 
--- fun y -> let f = fun z -> @A{if true then y else z, z} in (f 1, f true)
-abbrev pub two_uses : Core
-two_uses = apply 20 (apply 16 (constant 12 13) (apply 15 (name 13 0) (number 14 1))) (apply 19 (name 17 0) (truth 18 true))
+-- (f 1, f true), where `f` is the newest name; the numbers begin at this one
+abbrev pub two_uses : ℕ → Core
+two_uses n =
+    apply (n + 8) (apply (n + 4) (constant n 13) (apply (n + 3) (name (n + 1) 0) (number (n + 2) 1)))
+    (apply (n + 7) (name (n + 5) 0) (truth (n + 6) true))
 
+-- fun y -> let f = fun z -> @A{if true then y else z, z} in (f 1, f true)
 abbrev pub one_or_all : CoreProgram
 one_or_all =
     alone (lambda 21 (bind 11 (lambda 10 (either 9
       (apply 7 (apply 5 (apply 3 (constant 1 16) (truth 2 true)) (name 4 1)) (name 6 0))
       (name 8 0)))
-      two_uses))
+      (two_uses 12)))
 
 -- fun x -> x x
 abbrev pub self_application : Core
@@ -98,7 +101,7 @@ two_recursive_uses = loop 5 (lambda 4 (apply 3 (name 1 1) (number 2 1))) (apply 
 
 -- let rec f = fun x -> x in (f 1, f true)
 abbrev pub two_later_uses : Core
-two_later_uses = loop 3 (lambda 2 (name 1 0)) (apply 12 (apply 8 (constant 4 13) (apply 7 (name 5 0) (number 6 1))) (apply 11 (name 9 0) (truth 10 true)))
+two_later_uses = loop 3 (lambda 2 (name 1 0)) (two_uses 4)
 
 -- fun x -> (x + 1, not x)
 abbrev pub number_and_truth : Core
