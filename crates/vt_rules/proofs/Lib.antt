@@ -17,3 +17,5 @@ pub mod Untyped
 pub mod FailingExamples
 pub mod Uses
 pub mod MeaningExamples
+pub mod InversionAt
+pub mod ChangeExamples

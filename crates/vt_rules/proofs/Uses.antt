@@ -76,3 +76,24 @@ module _ (env : Env) (entry : Entry) (is : entry_at env 0 ≡ Some entry) (n : �
       let (other, f, g) = of_app core_constants env (n + 8) nowhere (apply (n + 4) (constant n 13) (apply (n + 3) (name (n + 1) 0) (number (n + 2) 1))) (apply (n + 7) (name (n + 5) 0) (truth (n + 6) true)) type d in
       let (one, h, k) = of_app core_constants env (n + 4) nowhere (constant n 13) (apply (n + 3) (name (n + 1) 0) (number (n + 2) 1)) (other ⇒ type) f in
       (one, other, use_has (n + 3) (n + 1) (n + 2) one _ k, use_has (n + 7) (n + 5) (n + 6) other _ g, pair_has env n one other type h)
+
+-- the sum and the negation
+module _ (env : Env) (n : ℕ) where
+  pub plus_typed : Ty core_constants env (constant n 0) (int ⇒ (int ⇒ int))
+  plus_typed = ty.constant env n nowhere 0 (int ⇒ (int ⇒ int)) _ refl (record { images = Var; well_formed = λ path. tt; same = refl })
+
+  pub plus_has : (one other type : Plain) → Ty core_constants env (constant n 0) (one ⇒ (other ⇒ type)) → (one ≡ int) × (other ≡ int) × (type ≡ int)
+  plus_has one other type d =
+      let i = constant_has 0 (int ⇒ (int ⇒ int)) refl env n nowhere (one ⇒ (other ⇒ type)) d in
+      let (e, rest) = arrow_parts int (int ⇒ int) one (other ⇒ type) i.same in
+      let (f, g) = arrow_parts int int other type rest in
+      (sym e, sym f, sym g)
+
+  pub not_typed : Ty core_constants env (constant n 9) (bool ⇒ bool)
+  not_typed = ty.constant env n nowhere 9 (bool ⇒ bool) _ refl (record { images = Var; well_formed = λ path. tt; same = refl })
+
+  pub not_has : (one type : Plain) → Ty core_constants env (constant n 9) (one ⇒ type) → (one ≡ bool) × (type ≡ bool)
+  not_has one type d =
+      let i = constant_has 9 (bool ⇒ bool) refl env n nowhere (one ⇒ type) d in
+      let (e, f) = arrow_parts bool bool one type i.same in
+      (sym e, sym f)
