@@ -1,4 +1,4 @@
-use Rattle.std.proofs.Common.{◌≡◌, ℕ, zero, suc, ◌<◌, List, [], ◌∷◌, Some, None, slice_get, get_or, Contains, refl, sym, ap, ◌∙◌, subst, true, inl, inr, arith, lit<}
+use Rattle.std.proofs.Common.{◌≡◌, ℕ, zero, suc, ◌<◌, List, [], ◌∷◌, Some, slice_get, get_or, Contains, refl, sym, ◌∙◌, subst, true, inl, inr, arith, lit<}
 use Rattle.std.proofs.lemmas.Option.{same_Some, none-some}
 use Rattle.vt_syntax.specs.declared.core_expr.Core.{Core}
 use Rattle.vt_syntax.specs.declared.core_expr.Form.{Hole}
@@ -9,7 +9,7 @@ use Rattle.vt_type.specs.declared.plain.Plain.{Plain, Var}
 use Rattle.vt_type.specs.Plain.{IsWellFormed, IsInstance}
 use Rattle.vt_type.specs.Constants.{core_constants, int, bool, pair, ◌⇒◌, a}
 use Rattle.vt_type.proofs.Renaming.{renaming-canonical}
-use Rattle.vt_rules.specs.Env.{Env, Entry, Empty, ◌▸◌, Mono, Def, Rec}
+use Rattle.vt_rules.specs.Env.{Empty, ◌▸◌, Mono, Def}
 use Rattle.vt_rules.specs.Typing.{Ty}
 use Rattle.vt_rules.specs.Typing as ty
 use Rattle.vt_rules.specs.TypingAt.{TyAt}
@@ -21,7 +21,7 @@ use Rattle.vt_rules.specs.Witnesses.{WrongSum, WrongUse, NumberAndTruth, PairWit
 use Rattle.vt_rules.proofs.Inversion.{of_literal, of_known, of_fun, of_app}
 use Rattle.vt_rules.proofs.InversionAt.{at_hole, at_fun, at_function, at_argument, at_let_bound}
 use Rattle.vt_rules.proofs.WellFormedTypes.{result-well_formed}
-use Rattle.vt_rules.proofs.Shapes.{arrow_parts, int_is_no_arrow}
+use Rattle.vt_rules.proofs.Shapes.{int_is_no_arrow}
 use Rattle.vt_rules.proofs.Uses.{int_is, bool_is, two_images, two_images-well_formed, pair_typed, pair_has, plus_typed, plus_has, not_typed, not_has}
 
 -- The changes of small programs.

@@ -1,17 +1,15 @@
-use Rattle.std.proofs.Common.{◌≡◌, ℕ, ◌<◌, ◌≤◌, List, All, refl, sym, ◌∙◌, true, arith, lit≤, lit<}
+use Rattle.std.proofs.Common.{ℕ, ◌<◌, ◌≤◌, List, refl, sym, ◌∙◌, true, arith, lit≤, lit<}
 use Rattle.vt_lex.specs.declared.span.Span.{Span}
 use Rattle.vt_syntax.specs.declared.core_expr.Core.{Core}
 use Rattle.vt_syntax.specs.CoreTrees.{core, let_rec_form}
 use Rattle.vt_type.specs.declared.plain.Plain.{Plain}
-use Rattle.vt_type.specs.Plain.{IsWellFormed}
 use Rattle.vt_type.specs.Constants.{Constant, core_constants, int, bool, ◌⇒◌}
 use Rattle.vt_type.proofs.ConstantTable.{core_is_table}
-use Rattle.vt_rules.specs.Env.{Env, Empty, ◌▸◌, Mono, Def, Rec}
-use Rattle.vt_rules.specs.Typing.{Ty}
+use Rattle.vt_rules.specs.Env.{Env, Empty, ◌▸◌, Mono, Rec}
 use Rattle.vt_rules.specs.TypingUpTo.{TyUpTo}
 use Rattle.vt_rules.specs.TypingUpTo as to
 use Rattle.vt_rules.specs.Failing.{IsTypedUpTo}
-use Rattle.vt_rules.specs.Examples.{nowhere, number, truth, name, lambda, apply, loop, number_applied, endless}
+use Rattle.vt_rules.specs.Examples.{nowhere, number, truth, name, lambda, number_applied, endless}
 use Rattle.vt_rules.specs.Witnesses.{NumberApplied, Endless}
 use Rattle.vt_rules.proofs.Inversion.{of_known, of_fun}
 use Rattle.vt_rules.proofs.UpTo.{up_to-smaller}

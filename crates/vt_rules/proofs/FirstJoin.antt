@@ -5,7 +5,7 @@ use Rattle.std.specs.Option.{option_map}
 use Rattle.vt_lex.specs.declared.span.Span.{Span}
 use Rattle.vt_syntax.specs.declared.core_expr.Core.{Core}
 use Rattle.vt_syntax.specs.declared.core_expr.Form.{Form, Literal, Name, Const, Hole}
-use Rattle.vt_syntax.specs.CoreTrees.{core, fun_of, app_of, let_of, let_rec_of, choice_of}
+use Rattle.vt_syntax.specs.CoreTrees.{core, fun_of, app_of, let_of, let_rec_of, choice_of, fun_form, app_form, let_form, let_rec_form}
 use Rattle.vt_syntax.specs.Selection.{IsPlainForm}
 use Rattle.vt_syntax.specs.Checking.{Rise, numbers_of}
 use Rattle.vt_syntax.specs.Scoping.{IsScoped, HasConstants}
@@ -111,6 +111,29 @@ module _ (K : List Constant) (table : IsTable K) where
     order : InOrder node form
     no_join : HasJoin j node form → ⊥
 
+  -- the parts of such an expression
+  module _ (j : ℕ) (env : Env) (node : ℕ) (one other : Core) where
+    in_body : (entry : Entry) → Sound j env node (fun_form one) → Sound j (env ▸ entry) one.node one.form
+    in_body entry s = record { plain = s.plain; scoped = s.scoped; constants = s.constants; order = s.order.1; no_join = s.no_join }
+
+    in_function : Sound j env node (app_form one other) → Sound j env one.node one.form
+    in_function s = record { plain = s.plain.0; scoped = s.scoped.0; constants = s.constants.0; order = s.order.2; no_join = λ h. s.no_join (inr (inl h)) }
+
+    in_argument : Sound j env node (app_form one other) → Sound j env other.node other.form
+    in_argument s = record { plain = s.plain.1; scoped = s.scoped.1; constants = s.constants.1; order = s.order.3; no_join = λ h. s.no_join (inr (inr h)) }
+
+    in_bound : Sound j env node (let_form one other) → Sound j env one.node one.form
+    in_bound s = record { plain = s.plain.0; scoped = s.scoped.0; constants = s.constants.0; order = s.order.2; no_join = λ h. s.no_join (inl h) }
+
+    in_looped : (name : List ℕ) (name_at : Span) (entry : Entry) → Sound j env node (let_rec_form name name_at one other) → Sound j (env ▸ entry) one.node one.form
+    in_looped name name_at entry s = record { plain = s.plain.0; scoped = s.scoped.0; constants = s.constants.0; order = s.order.2; no_join = λ h. s.no_join (inr (inl h)) }
+
+    in_let : (entry : Entry) → Sound j env node (let_form one other) → Sound j (env ▸ entry) other.node other.form
+    in_let entry s = record { plain = s.plain.1; scoped = s.scoped.1; constants = s.constants.1; order = s.order.3; no_join = λ h. s.no_join (inr h) }
+
+    in_let_rec : (name : List ℕ) (name_at : Span) (entry : Entry) → Sound j env node (let_rec_form name name_at one other) → Sound j (env ▸ entry) other.node other.form
+    in_let_rec name name_at entry s = record { plain = s.plain.1; scoped = s.scoped.1; constants = s.constants.1; order = s.order.3; no_join = λ h. s.no_join (inr (inr h)) }
+
   -- a name that is not above the number has a type
   name_typed : (j : ℕ) (env : Env) (n : ℕ) (by : Span) (distance : ℕ) → n ≤ j → IsWellFormedEnv env → HasTypes env → distance < size env → (type : Plain) × TyUpTo K j env (core n by (Name distance)) type
   name_typed j env n by distance le well_formed types within = by_entry (found env distance within).0 (found env distance within).1
@@ -142,13 +165,9 @@ module _ (K : List Constant) (table : IsTable K) where
     is_next : (n : ℕ) → k < n → n ≤ suc k → n ≡ suc k
     is_next n above le = omega arith
 
-    -- nodes before one that is not above the number
-    before : (n node : ℕ) (form : Form) → n ≤ k → AllNodes (λ i. i < n) node form → AllNodes (λ i. i ≤ k) node form
+    -- nodes before one that is not above the next number
+    before : (n node : ℕ) (form : Form) → n ≤ suc k → AllNodes (λ i. i < n) node form → AllNodes (λ i. i ≤ k) node form
     before n node form le h = weaker (λ i. i < n) (λ i. i ≤ k) (λ i less. omega arith) node form h
-
-    -- nodes before the next number
-    up_to_here : (n node : ℕ) (form : Form) → n ≤ suc k → AllNodes (λ i. i < n) node form → AllNodes (λ i. i ≤ k) node form
-    up_to_here n node form le h = weaker (λ i. i < n) (λ i. i ≤ k) (λ i less. omega arith) node form h
 
     -- nodes after one that is above the number
     after : (n node : ℕ) (form : Form) → k < n → AllNodes (λ i. n < i) node form → AllNodes (λ i. suc k < i) node form
@@ -177,22 +196,20 @@ module _ (K : List Constant) (table : IsTable K) where
     step _ _ _ (to.name_def env n by distance inner bound type le e d) c s = name_typed (suc k) env n by distance (omega arith) c.well_formed c.has_types s.scoped
     step _ _ _ (to.name_rec env n by distance inner bound type le e w d) c s = name_typed (suc k) env n by distance (omega arith) c.well_formed c.has_types s.scoped
     step _ _ _ (to.fun env n by body from type le w d) c s =
-        (_, to.fun env n by body from type (omega arith) w (checked (env ▸ Mono from) body type (under_mono env from c w) (before n body.node body.form le s.order.0) d))
+        (_, to.fun env n by body from type (omega arith) w (checked (env ▸ Mono from) body type (under_mono env from c w) (before n body.node body.form (omega arith) s.order.0) d))
     step _ _ _ (to.app env n by function argument from type le d f) c s = (
       type,
       to.app env n by function argument from type (omega arith)
-          (checked env function (from ⇒ type) c (before n function.node function.form le s.order.0) d)
-          (checked env argument from c (before n argument.node argument.form le s.order.1) f),
+          (checked env function (from ⇒ type) c (before n function.node function.form (omega arith) s.order.0) d)
+          (checked env argument from c (before n argument.node argument.form (omega arith) s.order.1) f),
     )
     step _ _ _ (to.let_in env n by bound body some type le d f) c s =
-        let all = before n bound.node bound.form le s.order.0 in
-        let sound : Sound (suc k) (env ▸ Def env bound) body.node body.form = record { plain = s.plain.1; scoped = s.scoped.1; constants = s.constants.1; order = s.order.3; no_join = λ j. s.no_join (inr j) } in
-        let (new, g) = step (env ▸ Def env bound) body type f (under_def env bound some c all d) sound in
+        let all = before n bound.node bound.form (omega arith) s.order.0 in
+        let (new, g) = step (env ▸ Def env bound) body type f (under_def env bound some c all d) (in_let (suc k) env n bound body (Def env bound) s) in
         (new, to.let_in env n by bound body some new (omega arith) (checked env bound some c all d) g)
     step _ _ _ (to.let_rec env n by name name_at bound body some type le w d f) c s =
-        let all = before n bound.node bound.form le s.order.0 in
-        let sound : Sound (suc k) (env ▸ Rec env bound) body.node body.form = record { plain = s.plain.1; scoped = s.scoped.1; constants = s.constants.1; order = s.order.3; no_join = λ j. s.no_join (inr (inr j)) } in
-        let (new, g) = step (env ▸ Rec env bound) body type f (under_rec env bound some c all w d) sound in
+        let all = before n bound.node bound.form (omega arith) s.order.0 in
+        let (new, g) = step (env ▸ Rec env bound) body type f (under_rec env bound some c all w d) (in_let_rec (suc k) env n bound body name name_at (Rec env bound) s) in
         (new, to.let_rec env n by name name_at bound body some new (omega arith) w (checked (env ▸ Mono some) bound some (under_mono env some c w) all d) g)
     step _ _ _ (to.literal_above env n by l type above w) c s =
         elim (cases_lt (suc k) n) [ inl past ↦ (type, to.literal_above env n by l type past w) | inr here ↦ (_, to.literal env n by l here) ]
@@ -206,32 +223,27 @@ module _ (K : List Constant) (table : IsTable K) where
     step _ _ _ (to.name_above env n by distance type above w) c s =
         elim (cases_lt (suc k) n) [ inl past ↦ (type, to.name_above env n by distance type past w) | inr here ↦ name_typed (suc k) env n by distance here c.well_formed c.has_types s.scoped ]
     step _ _ _ (to.fun_above env n by body from other type above w v d) c s =
-        let sound : Sound (suc k) (env ▸ Mono from) body.node body.form = record { plain = s.plain; scoped = s.scoped; constants = s.constants; order = s.order.1; no_join = s.no_join } in
-        let (new, g) = step (env ▸ Mono from) body other d (under_mono env from c v) sound in
+        let (new, g) = step (env ▸ Mono from) body other d (under_mono env from c v) (in_body (suc k) env n body body (Mono from) s) in
         elim (cases_lt (suc k) n) [
           | inl past ↦ (type, to.fun_above env n by body from new type past w v g)
-          | inr here ↦ (_, to.fun env n by body from other here v (checked (env ▸ Mono from) body other (under_mono env from c v) (up_to_here n body.node body.form here s.order.0) d))
+          | inr here ↦ (_, to.fun env n by body from other here v (checked (env ▸ Mono from) body other (under_mono env from c v) (before n body.node body.form here s.order.0) d))
         ]
     step _ _ _ (to.app_above env n by function argument one other type above w d f) c s =
-        let sound : Sound (suc k) env function.node function.form = record { plain = s.plain.0; scoped = s.scoped.0; constants = s.constants.0; order = s.order.2; no_join = λ j. s.no_join (inr (inl j)) } in
-        let sound' : Sound (suc k) env argument.node argument.form = record { plain = s.plain.1; scoped = s.scoped.1; constants = s.constants.1; order = s.order.3; no_join = λ j. s.no_join (inr (inr j)) } in
-        let (new, g) = step env function one d c sound in
-        let (new', j) = step env argument other f c sound' in
+        let (new, g) = step env function one d c (in_function (suc k) env n function argument s) in
+        let (new', j) = step env argument other f c (in_argument (suc k) env n function argument s) in
         elim (cases_lt (suc k) n) [
           | inl past ↦ (type, to.app_above env n by function argument new new' type past w g j)
           | inr here ↦ absurd (s.no_join (inl (is_next n above here)))
         ]
     step _ _ _ (to.let_above env n by bound body one other type above w d f) c s =
-        let sound : Sound (suc k) env bound.node bound.form = record { plain = s.plain.0; scoped = s.scoped.0; constants = s.constants.0; order = s.order.2; no_join = λ j. s.no_join (inl j) } in
-        let (new, g) = step env bound one d c sound in
+        let (new, g) = step env bound one d c (in_bound (suc k) env n bound body s) in
         let j = above_all K (suc k) (env ▸ Def env bound) body.node body.span body.form int (after n body.node body.form above s.order.1) s.plain.1 int_is in
         elim (cases_lt (suc k) n) [
           | inl past ↦ (type, to.let_above env n by bound body new int type past w g j)
-          | inr here ↦ (int, to.let_in env n by bound body one int here (checked env bound one c (up_to_here n bound.node bound.form here s.order.0) d) j)
+          | inr here ↦ (int, to.let_in env n by bound body one int here (checked env bound one c (before n bound.node bound.form here s.order.0) d) j)
         ]
     step _ _ _ (to.let_rec_above env n by name name_at bound body from one other type above w v d f) c s =
-        let sound : Sound (suc k) (env ▸ Mono from) bound.node bound.form = record { plain = s.plain.0; scoped = s.scoped.0; constants = s.constants.0; order = s.order.2; no_join = λ j. s.no_join (inr (inl j)) } in
-        let (new, g) = step (env ▸ Mono from) bound one d (under_mono env from c v) sound in
+        let (new, g) = step (env ▸ Mono from) bound one d (under_mono env from c v) (in_looped (suc k) env n bound body name name_at (Mono from) s) in
         let j = above_all K (suc k) (env ▸ Rec env bound) body.node body.span body.form int (after n body.node body.form above s.order.1) s.plain.1 int_is in
         elim (cases_lt (suc k) n) [
           | inl past ↦ (type, to.let_rec_above env n by name name_at bound body from new int type past w v g j)
@@ -252,24 +264,20 @@ module _ (K : List Constant) (table : IsTable K) where
   first_step env node by Hole w h s =
       elim (cases_lt 0 node) [ inl past ↦ (int, to.hole_above env node by int past int_is) | inr here ↦ (int, to.hole env node by int here int_is) ]
   first_step env node by (fun_of n at body) w h s =
-      let sound : Sound 0 (env ▸ Mono int) n body = record { plain = s.plain; scoped = s.scoped; constants = s.constants; order = s.order.1; no_join = s.no_join } in
-      let (some, d) = first_step (env ▸ Mono int) n at body (w, int_is) (h, tt) sound in
+      let (some, d) = first_step (env ▸ Mono int) n at body (w, int_is) (h, tt) (in_body 0 env node (core n at body) (core n at body) (Mono int) s) in
       elim (cases_lt 0 node) [
         | inl past ↦ (int, to.fun_above env node by (core n at body) int some int past int_is int_is d)
         | inr here ↦ (_, to.fun env node by (core n at body) int some here int_is d)
       ]
   first_step env node by (app_of n at function m on argument) w h s =
-      let sound : Sound 0 env n function = record { plain = s.plain.0; scoped = s.scoped.0; constants = s.constants.0; order = s.order.2; no_join = λ j. s.no_join (inr (inl j)) } in
-      let sound' : Sound 0 env m argument = record { plain = s.plain.1; scoped = s.scoped.1; constants = s.constants.1; order = s.order.3; no_join = λ j. s.no_join (inr (inr j)) } in
-      let (some, d) = first_step env n at function w h sound in
-      let (some', d') = first_step env m on argument w h sound' in
+      let (some, d) = first_step env n at function w h (in_function 0 env node (core n at function) (core m on argument) s) in
+      let (some', d') = first_step env m on argument w h (in_argument 0 env node (core n at function) (core m on argument) s) in
       elim (cases_lt 0 node) [
         | inl past ↦ (int, to.app_above env node by (core n at function) (core m on argument) some some' int past int_is d d')
         | inr here ↦ absurd (s.no_join (inl (omega arith)))
       ]
   first_step env node by (let_of n at bound m on body) w h s =
-      let sound : Sound 0 env n bound = record { plain = s.plain.0; scoped = s.scoped.0; constants = s.constants.0; order = s.order.2; no_join = λ j. s.no_join (inl j) } in
-      let (some, d) = first_step env n at bound w h sound in
+      let (some, d) = first_step env n at bound w h (in_bound 0 env node (core n at bound) (core m on body) s) in
       let past_body = weaker (λ i. node < i) (λ i. 0 < i) (λ i less. omega arith) m body s.order.1 in
       let f = above_all K 0 (env ▸ Def env (core n at bound)) m on body int past_body s.plain.1 int_is in
       elim (cases_lt 0 node) [
@@ -277,8 +285,7 @@ module _ (K : List Constant) (table : IsTable K) where
         | inr here ↦ (int, to.let_in env node by (core n at bound) (core m on body) some int here d f)
       ]
   first_step env node by (let_rec_of name name_at n at bound m on body) w h s =
-      let sound : Sound 0 (env ▸ Mono int) n bound = record { plain = s.plain.0; scoped = s.scoped.0; constants = s.constants.0; order = s.order.2; no_join = λ j. s.no_join (inr (inl j)) } in
-      let (some, d) = first_step (env ▸ Mono int) n at bound (w, int_is) (h, tt) sound in
+      let (some, d) = first_step (env ▸ Mono int) n at bound (w, int_is) (h, tt) (in_looped 0 env node (core n at bound) (core m on body) name name_at (Mono int) s) in
       let past_body = weaker (λ i. node < i) (λ i. 0 < i) (λ i less. omega arith) m body s.order.1 in
       let f = above_all K 0 (env ▸ Rec env (core n at bound)) m on body int past_body s.plain.1 int_is in
       elim (cases_lt 0 node) [

@@ -1,17 +1,14 @@
-use Rattle.std.proofs.Common.{◌≡◌, ℕ, List, [], ◌∷◌, Some, None, slice_get, refl, sym, ap, ◌∙◌, subst, true}
-use Rattle.vt_dec.specs.declared.side.Side.{Side}
-use Rattle.vt_dec.specs.declared.side.Side.TheVariants.{Left, Right}
-use Rattle.vt_syntax.specs.declared.core_expr.Core.{Core}
+use Rattle.std.proofs.Common.{◌≡◌, ℕ, [], refl, sym, ap, ◌∙◌, true}
 use Rattle.vt_type.specs.declared.plain.Plain.{Plain, Var}
-use Rattle.vt_type.specs.Plain.{IsWellFormed, IsInstance}
+use Rattle.vt_type.specs.Plain.{IsWellFormed}
 use Rattle.vt_type.specs.Constants.{core_constants, int, bool, pair, ◌⇒◌, a}
-use Rattle.vt_rules.specs.Env.{Env, Entry, Empty, ◌▸◌, Mono, Def, Rec}
+use Rattle.vt_rules.specs.Env.{Env, Empty, ◌▸◌, Mono, Def, Rec}
 use Rattle.vt_rules.specs.Typing.{Ty}
 use Rattle.vt_rules.specs.Typing as ty
 use Rattle.vt_rules.specs.Principal.{IsTyped, Principal}
-use Rattle.vt_rules.specs.Examples.{nowhere, number, truth, name, constant, lambda, apply, bind, loop, two_uses, number_or_itself, one_or_all, two_later_uses}
+use Rattle.vt_rules.specs.Examples.{nowhere, number, truth, name, constant, lambda, apply, bind, two_uses}
 use Rattle.vt_rules.specs.Witnesses.{NumberOrItself, OneOrAll, TwoLaterUses}
-use Rattle.vt_rules.proofs.Inversion.{Allows, of_literal, of_known, of_fun, of_app, of_let, of_let_rec}
+use Rattle.vt_rules.proofs.Inversion.{of_literal, of_known, of_fun, of_app, of_let, of_let_rec}
 use Rattle.vt_rules.proofs.Shapes.{arrow_parts, no_int_and_bool}
 use Rattle.vt_rules.proofs.Uses.{int_is, bool_is, condition_has, uses_typed, uses_have}
 

@@ -1,12 +1,12 @@
-use Rattle.std.proofs.Common.{◌≡◌, ℕ, ◌+◌, ◌<◌, List, slice_get, map, Some, refl, sym, ap, subst, ◌∙◌, arith}
+use Rattle.std.proofs.Common.{◌≡◌, ℕ, sym, ap, subst, ◌∙◌, arith}
 use Rattle.std.proofs.lemmas.Option.{same_Some}
 use Rattle.vt_lex.specs.declared.span.Span.{Span}
 use Rattle.vt_syntax.specs.declared.core_expr.Form.{Const}
 use Rattle.vt_syntax.specs.CoreTrees.{core}
 use Rattle.vt_type.specs.declared.plain.Plain.{Plain, Var, Con}
 use Rattle.vt_type.specs.declared.plain.PlainKids.{Nil}
-use Rattle.vt_type.specs.Plain.{kids_of, plain_nodes, IsInstance, substituted}
-use Rattle.vt_type.specs.Constants.{Constant, core_constants, HasClosed, int, bool, pair, list, ◌⇒◌}
+use Rattle.vt_type.specs.Plain.{kids_of, plain_nodes, IsInstance}
+use Rattle.vt_type.specs.Constants.{core_constants, HasClosed, int, bool, pair, ◌⇒◌}
 use Rattle.vt_type.proofs.Renaming.{first_kid}
 use Rattle.vt_rules.specs.Env.{Env}
 use Rattle.vt_rules.specs.Typing.{Ty}

@@ -1,9 +1,9 @@
-use Rattle.std.proofs.Common.{◌≡◌, ℕ, refl, sym, ◌∙◌, true}
+use Rattle.std.proofs.Common.{refl, sym, ◌∙◌, true}
 use Rattle.vt_type.specs.declared.plain.Plain.{Plain}
-use Rattle.vt_type.specs.Constants.{core_constants, int, bool, ◌⇒◌}
-use Rattle.vt_rules.specs.Env.{Env, Empty, ◌▸◌, Mono, Def, Rec}
+use Rattle.vt_type.specs.Constants.{core_constants, ◌⇒◌}
+use Rattle.vt_rules.specs.Env.{Env, Empty, ◌▸◌, Mono, Rec}
 use Rattle.vt_rules.specs.Typing.{Ty}
-use Rattle.vt_rules.specs.Examples.{nowhere, number, truth, name, lambda, apply, bind, loop, self_application, unused_error, number_applied, two_recursive_uses}
+use Rattle.vt_rules.specs.Examples.{nowhere, number, truth, name, lambda, apply, number_applied}
 use Rattle.vt_rules.specs.Witnesses.{SelfApplication, UnusedError, TwoRecursiveUses}
 use Rattle.vt_rules.proofs.Inversion.{of_literal, of_known, of_fun, of_app, of_let, of_let_rec}
 use Rattle.vt_rules.proofs.Shapes.{arrow_parts, int_is_no_arrow, no_int_and_bool, no_endless}

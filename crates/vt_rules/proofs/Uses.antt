@@ -1,10 +1,9 @@
-use Rattle.std.proofs.Common.{◌≡◌, ℕ, zero, suc, ◌+◌, List, [], ◌∷◌, Some, refl, sym, ap, ◌∙◌, subst, true}
-use Rattle.vt_lex.specs.declared.span.Span.{Span}
+use Rattle.std.proofs.Common.{◌≡◌, ℕ, zero, suc, ◌+◌, List, [], ◌∷◌, Some, refl, sym, ◌∙◌, subst, true}
 use Rattle.vt_syntax.specs.declared.core_expr.Form.{Literal}
 use Rattle.vt_syntax.specs.declared.core_expr.Lit.{Lit}
 use Rattle.vt_syntax.specs.CoreTrees.{core}
 use Rattle.vt_type.specs.declared.plain.Plain.{Plain, Var}
-use Rattle.vt_type.specs.Plain.{IsWellFormed, IsInstance}
+use Rattle.vt_type.specs.Plain.{IsWellFormed}
 use Rattle.vt_type.specs.Canonical.{canonical}
 use Rattle.vt_type.specs.Constants.{core_constants, int, bool, pair, ◌⇒◌, a, b}
 use Rattle.vt_rules.specs.Env.{Env, Entry, entry_at}

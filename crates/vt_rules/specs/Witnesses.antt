@@ -1,10 +1,8 @@
-use Rattle.std.specs.Prelude.{◌≡◌, ℕ, List, [], ◌∷◌, Option, Some, None, slice_get}
+use Rattle.std.specs.Prelude.{◌≡◌, List, [], ◌∷◌, Option, Some, None, slice_get}
 use Rattle.vt_dec.specs.declared.side.Side.{Side}
 use Rattle.vt_dec.specs.declared.side.Side.TheVariants.{Left, Right}
-use Rattle.vt_syntax.specs.declared.core_expr.Core.{Core}
 use Rattle.vt_syntax.specs.declared.core_program.CoreProgram.{CoreProgram}
 use Rattle.vt_syntax.specs.Programs.{whole}
-use Rattle.vt_type.specs.declared.change.ChangeLine.{ChangeLine}
 use Rattle.vt_type.specs.declared.plain.Plain.{Plain, Var}
 use Rattle.vt_type.specs.Constants.{core_constants, int, bool, pair, ◌⇒◌, a}
 use Rattle.vt_rules.specs.Principal.{IsTyped, Principal}
