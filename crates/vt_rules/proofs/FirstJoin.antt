@@ -112,10 +112,10 @@ module _ (K : List Constant) (table : IsTable K) where
     no_join : HasJoin j node form → ⊥
 
   -- the parts of such an expression
-  module _ (j : ℕ) (env : Env) (node : ℕ) (one other : Core) where
-    in_body : (entry : Entry) → Sound j env node (fun_form one) → Sound j (env ▸ entry) one.node one.form
-    in_body entry s = record { plain = s.plain; scoped = s.scoped; constants = s.constants; order = s.order.1; no_join = s.no_join }
+  in_body : (j : ℕ) (env : Env) (node : ℕ) (body : Core) (entry : Entry) → Sound j env node (fun_form body) → Sound j (env ▸ entry) body.node body.form
+  in_body j env node body entry s = record { plain = s.plain; scoped = s.scoped; constants = s.constants; order = s.order.1; no_join = s.no_join }
 
+  module _ (j : ℕ) (env : Env) (node : ℕ) (one other : Core) where
     in_function : Sound j env node (app_form one other) → Sound j env one.node one.form
     in_function s = record { plain = s.plain.0; scoped = s.scoped.0; constants = s.constants.0; order = s.order.2; no_join = λ h. s.no_join (inr (inl h)) }
 
@@ -223,7 +223,7 @@ module _ (K : List Constant) (table : IsTable K) where
     step _ _ _ (to.name_above env n by distance type above w) c s =
         elim (cases_lt (suc k) n) [ inl past ↦ (type, to.name_above env n by distance type past w) | inr here ↦ name_typed (suc k) env n by distance here c.well_formed c.has_types s.scoped ]
     step _ _ _ (to.fun_above env n by body from other type above w v d) c s =
-        let (new, g) = step (env ▸ Mono from) body other d (under_mono env from c v) (in_body (suc k) env n body body (Mono from) s) in
+        let (new, g) = step (env ▸ Mono from) body other d (under_mono env from c v) (in_body (suc k) env n body (Mono from) s) in
         elim (cases_lt (suc k) n) [
           | inl past ↦ (type, to.fun_above env n by body from new type past w v g)
           | inr here ↦ (_, to.fun env n by body from other here v (checked (env ▸ Mono from) body other (under_mono env from c v) (before n body.node body.form here s.order.0) d))
@@ -264,7 +264,7 @@ module _ (K : List Constant) (table : IsTable K) where
   first_step env node by Hole w h s =
       elim (cases_lt 0 node) [ inl past ↦ (int, to.hole_above env node by int past int_is) | inr here ↦ (int, to.hole env node by int here int_is) ]
   first_step env node by (fun_of n at body) w h s =
-      let (some, d) = first_step (env ▸ Mono int) n at body (w, int_is) (h, tt) (in_body 0 env node (core n at body) (core n at body) (Mono int) s) in
+      let (some, d) = first_step (env ▸ Mono int) n at body (w, int_is) (h, tt) (in_body 0 env node (core n at body) (Mono int) s) in
       elim (cases_lt 0 node) [
         | inl past ↦ (int, to.fun_above env node by (core n at body) int some int past int_is int_is d)
         | inr here ↦ (_, to.fun env node by (core n at body) int some here int_is d)

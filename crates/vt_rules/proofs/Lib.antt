@@ -19,3 +19,5 @@ pub mod Uses
 pub mod MeaningExamples
 pub mod InversionAt
 pub mod ChangeExamples
+pub mod OneList
+pub mod OneChanges
