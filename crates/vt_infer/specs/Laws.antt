@@ -1,9 +1,13 @@
-use Rattle.std.specs.Prelude.{◌≡◌, ◌↔◌, ◌⊎◌, ℕ, suc, ◌≤◌, List, length}
+use Rattle.std.specs.Prelude.{◌≡◌, ◌↔◌, ◌⊎◌, ℕ, suc, ◌≤◌, List, length, Option}
 use Rattle.std.specs.List.{All}
+use Rattle.vt_dec.specs.declared.side.Side.{Side}
 use Rattle.vt_syntax.specs.declared.core_expr.Core.{Core}
+use Rattle.vt_syntax.specs.declared.core_program.CoreProgram.{CoreProgram}
+use Rattle.vt_syntax.specs.declared.leaf.Leaf.{Leaf}
 use Rattle.vt_syntax.specs.Checking.{Rise, numbers_of}
 use Rattle.vt_syntax.specs.Scoping.{IsScoped, HasConstants}
 use Rattle.vt_syntax.specs.Selection.{IsPlainForm}
+use Rattle.vt_type.specs.declared.change.ChangeLine.{ChangeLine}
 use Rattle.vt_type.specs.declared.plain.Plain.{Plain}
 use Rattle.vt_type.specs.Plain.{IsWellFormed, substituted}
 use Rattle.vt_type.specs.Canonical.{canonical}
@@ -13,6 +17,8 @@ use Rattle.vt_rules.specs.Typing.{Ty}
 use Rattle.vt_rules.specs.TypingAt.{TyAt, HoldsHole}
 use Rattle.vt_rules.specs.TypingUpTo.{TyUpTo}
 use Rattle.vt_rules.specs.Principal.{IsTyped, Principal, PrincipalAt}
+use Rattle.vt_rules.specs.Meaning.{Means}
+use Rattle.vt_rules.specs.Changes.{IsChanges}
 use Rattle.vt_rules.specs.Failing.{IsTypedUpTo, FirstFailing, HasJoin}
 use Rattle.vt_rules.specs.Generalising.{Gen, Start, Most}
 
@@ -46,6 +52,18 @@ abbrev pub PrincipalPairsAgree : Type 0
 PrincipalPairsAgree =
     (K : List Constant) (mark : ℕ) (program : Core) (one two other another : Plain)
     → PrincipalAt K mark program one two → PrincipalAt K mark program other another → canonical (pair one two) ≡ canonical (pair other another)
+
+-- At a decision a program means one thing.
+abbrev pub MeaningsAgree : Type 0
+MeaningsAgree =
+    (K : List Constant) (program : CoreProgram) (decision : List Side) (one other : Option Plain)
+    → Means K program decision one → Means K program decision other → one ≡ other
+
+-- A program has one list of changes.
+abbrev pub ChangesAgree : Type 0
+ChangesAgree =
+    (K : List Constant) (program : Core) (leaves : List Leaf) (one other : List ChangeLine)
+    → IsChanges K program leaves one → IsChanges K program leaves other → one ≡ other
 
 -- The mark of a hole can be forgotten.
 abbrev pub MarkedAreTyped : Type 0

@@ -6,6 +6,8 @@ ghost use Rattle.vt_infer.specs.Laws.{
   TypedHaveSchemes,
   PrincipalTypesAgree,
   PrincipalPairsAgree,
+  MeaningsAgree,
+  ChangesAgree,
   MarkedAreTyped,
   TypedAreMarked,
   UpToAllIsTyping,
@@ -46,6 +48,16 @@ pub fn one_principal_type()
 /// A program with a marked hole has one principal pair, up to the names of variables.
 pub fn one_principal_pair()
     ensures { PrincipalPairsAgree }
+{}
+
+/// At each decision a program means one thing.
+pub fn one_meaning()
+    ensures { MeaningsAgree }
+{}
+
+/// A program has one list of changes.
+pub fn one_list_of_changes()
+    ensures { ChangesAgree }
 {}
 
 /// A typing with a marked hole is a typing.

@@ -1,8 +1,18 @@
 //! What the definitions say of small programs, each the contract of a function that does nothing. Beside
 //! each statement, in `vt_rules`, stands which wrong definition it rules out.
 ghost use Rattle.vt_rules.specs.Witnesses.{
-    NumberOrItself, OneOrAll, SelfApplication, UnusedError, TwoRecursiveUses, TwoLaterUses, NumberApplied, Endless, WrongSum,
-    WrongUse, NumberAndTruth, PairWithError,
+  NumberOrItself,
+  OneOrAll,
+  SelfApplication,
+  UnusedError,
+  TwoRecursiveUses,
+  TwoLaterUses,
+  NumberApplied,
+  Endless,
+  WrongSum,
+  WrongUse,
+  NumberAndTruth,
+  PairWithError,
 };
 
 /// `fun x -> @A{x, 1}` is `'a -> @A{'a, Int}`.
