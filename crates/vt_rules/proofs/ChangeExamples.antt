@@ -22,7 +22,8 @@ use Rattle.vt_rules.proofs.Inversion.{of_literal, of_known, of_fun, of_app}
 use Rattle.vt_rules.proofs.InversionAt.{at_hole, at_fun, at_function, at_argument, at_let_bound}
 use Rattle.vt_rules.proofs.WellFormedTypes.{result-well_formed}
 use Rattle.vt_rules.proofs.Shapes.{int_is_no_arrow}
-use Rattle.vt_rules.proofs.Uses.{int_is, bool_is, two_images, two_images-well_formed, pair_typed, pair_has, plus_typed, plus_has, not_typed, not_has}
+use Rattle.vt_rules.proofs.NodesAbove.{int_is}
+use Rattle.vt_rules.proofs.Uses.{bool_is, two_images, two_images-well_formed, pair_typed, pair_has, plus_typed, plus_has, not_typed, not_has}
 
 -- The changes of small programs.
 

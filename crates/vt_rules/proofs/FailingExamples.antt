@@ -1,17 +1,15 @@
-use Rattle.std.proofs.Common.{ℕ, ◌<◌, ◌≤◌, List, refl, sym, ◌∙◌, true, arith, lit≤, lit<}
-use Rattle.vt_lex.specs.declared.span.Span.{Span}
+use Rattle.std.proofs.Common.{ℕ, ◌<◌, refl, sym, ◌∙◌, true, arith, lit≤, lit<}
 use Rattle.vt_syntax.specs.declared.core_expr.Core.{Core}
-use Rattle.vt_syntax.specs.CoreTrees.{core, let_rec_form}
-use Rattle.vt_type.specs.declared.plain.Plain.{Plain}
-use Rattle.vt_type.specs.Constants.{Constant, core_constants, int, bool, ◌⇒◌}
+use Rattle.vt_type.specs.Constants.{core_constants, int, bool, ◌⇒◌}
 use Rattle.vt_type.proofs.ConstantTable.{core_is_table}
-use Rattle.vt_rules.specs.Env.{Env, Empty, ◌▸◌, Mono, Rec}
+use Rattle.vt_rules.specs.Env.{Empty, ◌▸◌, Mono, Rec}
 use Rattle.vt_rules.specs.TypingUpTo.{TyUpTo}
 use Rattle.vt_rules.specs.TypingUpTo as to
 use Rattle.vt_rules.specs.Failing.{IsTypedUpTo}
 use Rattle.vt_rules.specs.Examples.{nowhere, number, truth, name, lambda, number_applied, endless}
 use Rattle.vt_rules.specs.Witnesses.{NumberApplied, Endless}
 use Rattle.vt_rules.proofs.Inversion.{of_known, of_fun}
+use Rattle.vt_rules.proofs.InversionUpTo.{let_rec_within}
 use Rattle.vt_rules.proofs.UpTo.{up_to-smaller}
 use Rattle.vt_rules.proofs.UpToAll.{up_to-ty}
 use Rattle.vt_rules.proofs.Shapes.{no_endless_to}
@@ -29,16 +27,10 @@ number_applied-fails = record {
   before = below_three number_applied (int, to.app_above Empty 3 nowhere (number 1 1) (truth 2 true) int bool int (lit< tt) (refl, tt) (to.literal Empty 1 nowhere _ (lit≤ tt)) (to.literal Empty 2 nowhere _ (lit≤ tt)));
 }
 
--- what a typing up to a number says of a `let rec` that is not above it
-of_let_rec_within : (K : List Constant) (k : ℕ) (env : Env) (n : ℕ) (at : Span) (own : List ℕ) (own_at : Span) (bound body : Core) (type : Plain)
-    → n ≤ k → TyUpTo K k env (core n at (let_rec_form own own_at bound body)) type → (some : Plain) × TyUpTo K k (env ▸ Mono some) bound some
-of_let_rec_within K k _ _ _ _ _ _ _ _ le (to.let_rec env n at own own_at bound body some type below w d f) = (some, d)
-of_let_rec_within K k _ _ _ _ _ _ _ _ le (to.let_rec_above env n at own own_at bound body from one other type above w v d f) = absurd (omega arith)
-
 endless-fails_at : IsTypedUpTo core_constants 3 endless → ⊥
 endless-fails_at (type, d) =
     let body = lambda 2 (name 1 1) in
-    let (some, f) = of_let_rec_within core_constants 3 Empty 3 nowhere _ nowhere body (number 4 1) type (lit≤ tt) d in
+    let (some, _, f, _) = let_rec_within core_constants 3 Empty 3 nowhere _ nowhere body (number 4 1) type (lit≤ tt) d in
     let g = up_to-ty core_constants 3 (Empty ▸ Mono some) body some f (tt, tt) (lit≤ tt, lit≤ tt) in
     let (from, result, w, h, e) = of_fun core_constants (Empty ▸ Mono some) 2 nowhere (name 1 1) some g in
     let is = of_known core_constants (Empty ▸ Mono some ▸ Mono from) 1 nowhere 1 (Mono some) result refl h in

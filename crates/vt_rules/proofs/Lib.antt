@@ -2,11 +2,14 @@ pub mod Entries
 pub mod WellFormedTypes
 pub mod Substitution
 pub mod Inversion
+pub mod InversionAt
+pub mod InversionUpTo
 pub mod Marking
 pub mod InOrder
 pub mod UpTo
 pub mod UpToAll
 pub mod LeastFailing
+pub mod NodesAbove
 pub mod FirstJoin
 pub mod Standing
 pub mod GeneralisingIsTyping
@@ -17,7 +20,6 @@ pub mod Untyped
 pub mod FailingExamples
 pub mod Uses
 pub mod MeaningExamples
-pub mod InversionAt
 pub mod ChangeExamples
 pub mod OneList
 pub mod OneChanges

@@ -10,7 +10,8 @@ use Rattle.vt_rules.specs.Examples.{nowhere, number, truth, name, constant, lamb
 use Rattle.vt_rules.specs.Witnesses.{NumberOrItself, OneOrAll, TwoLaterUses}
 use Rattle.vt_rules.proofs.Inversion.{of_literal, of_known, of_fun, of_app, of_let, of_let_rec}
 use Rattle.vt_rules.proofs.Shapes.{arrow_parts, no_int_and_bool}
-use Rattle.vt_rules.proofs.Uses.{int_is, bool_is, condition_has, uses_typed, uses_have}
+use Rattle.vt_rules.proofs.NodesAbove.{int_is}
+use Rattle.vt_rules.proofs.Uses.{bool_is, condition_has, uses_typed, uses_have}
 
 -- What small programs mean.
 

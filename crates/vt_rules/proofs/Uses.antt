@@ -15,9 +15,6 @@ use Rattle.vt_rules.proofs.Shapes.{arrow_parts, constant_has}
 
 -- Some constants of the language, and two uses of one name.
 
-pub int_is : IsWellFormed int
-int_is = (refl, tt)
-
 pub bool_is : IsWellFormed bool
 bool_is = (refl, tt)
 
