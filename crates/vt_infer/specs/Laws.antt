@@ -6,7 +6,7 @@ use Rattle.vt_syntax.specs.declared.core_program.CoreProgram.{CoreProgram}
 use Rattle.vt_syntax.specs.declared.leaf.Leaf.{Leaf}
 use Rattle.vt_syntax.specs.Checking.{Rise, numbers_of}
 use Rattle.vt_syntax.specs.Scoping.{IsScoped, HasConstants}
-use Rattle.vt_syntax.specs.Selection.{IsPlainForm}
+use Rattle.vt_syntax.specs.Selection.{IsPlainForm, selected_core_program}
 use Rattle.vt_type.specs.declared.change.ChangeLine.{ChangeLine}
 use Rattle.vt_type.specs.declared.plain.Plain.{Plain}
 use Rattle.vt_type.specs.Plain.{IsWellFormed, substituted}
@@ -17,8 +17,8 @@ use Rattle.vt_rules.specs.Typing.{Ty}
 use Rattle.vt_rules.specs.TypingAt.{TyAt, HoldsHole}
 use Rattle.vt_rules.specs.TypingUpTo.{TyUpTo}
 use Rattle.vt_rules.specs.Principal.{IsTyped, Principal, PrincipalAt}
-use Rattle.vt_rules.specs.Meaning.{Means}
-use Rattle.vt_rules.specs.Changes.{IsChanges}
+use Rattle.vt_rules.specs.Meaning.{Means, prefix}
+use Rattle.vt_rules.specs.Changes.{IsChanges, HasLeaf, Cures, without}
 use Rattle.vt_rules.specs.Failing.{IsTypedUpTo, FirstFailing, HasJoin}
 use Rattle.vt_rules.specs.Generalising.{Gen, Start, Most}
 
@@ -59,6 +59,12 @@ MeaningsAgree =
     (K : List Constant) (program : CoreProgram) (decision : List Side) (one other : Option Plain)
     → Means K program decision one → Means K program decision other → one ≡ other
 
+-- The prefix of what is selected is what is selected from the prefix.
+abbrev pub PrefixesAreSelected : Type 0
+PrefixesAreSelected =
+    (taken : ℕ → Option Side) (program : CoreProgram) (part : ℕ)
+    → selected_core_program taken (prefix program part) ≡ prefix (selected_core_program taken program) part
+
 -- A program has one list of changes.
 abbrev pub ChangesAgree : Type 0
 ChangesAgree =
@@ -74,6 +80,12 @@ abbrev pub TypedAreMarked : Type 0
 TypedAreMarked =
     (K : List Constant) (mark : ℕ) (env : Env) (e : Core) (type : Plain)
     → HoldsHole mark e.node e.form → Ty K env e type → (wanted : Plain) × TyAt K mark env e type wanted
+
+-- Where a leaf of a program cures, the hole that stands for it has a type.
+abbrev pub CuringAreMarked : Type 0
+CuringAreMarked =
+    (K : List Constant) (program : Core) (leaf : Leaf)
+    → HasLeaf leaf.node program.node program.form → Cures K program leaf → (wanted type : Plain) × TyAt K leaf.node Empty (without leaf program) type wanted
 
 -- Up to a number that no node passes, a typing is a typing.
 abbrev pub UpToAllIsTyping : Type 0

@@ -10,6 +10,8 @@ ghost use Rattle.vt_infer.specs.Laws.{
   ChangesAgree,
   MarkedAreTyped,
   TypedAreMarked,
+  CuringAreMarked,
+  PrefixesAreSelected,
   UpToAllIsTyping,
   UpToNextIsUpTo,
   LeastFailingExists,
@@ -55,6 +57,11 @@ pub fn one_meaning()
     ensures { MeaningsAgree }
 {}
 
+/// A part of what a decision selects is what it selects from that part.
+pub fn prefixes_are_selected()
+    ensures { PrefixesAreSelected }
+{}
+
 /// A program has one list of changes.
 pub fn one_list_of_changes()
     ensures { ChangesAgree }
@@ -68,6 +75,11 @@ pub fn marked_are_typed()
 /// In a typing of an expression in which a hole is written, that hole has a type.
 pub fn typed_are_marked()
     ensures { TypedAreMarked }
+{}
+
+/// Where a leaf of a program cures, the hole that stands for it has a type.
+pub fn curing_are_marked()
+    ensures { CuringAreMarked }
 {}
 
 /// Typing up to a number that no node passes is typing.

@@ -1,4 +1,4 @@
-use Rattle.std.proofs.Common.{◌≡◌, ℕ, zero, suc, ◌<◌, List, [], ◌∷◌, Some, slice_get, get_or, Contains, refl, sym, ◌∙◌, subst, true, inl, inr, arith, lit<}
+use Rattle.std.proofs.Common.{◌≡◌, ℕ, zero, suc, ◌<◌, List, [], ◌∷◌, Some, slice_get, get_or, Contains, refl, sym, subst, true, inl, inr, arith, lit<}
 use Rattle.std.proofs.lemmas.Option.{same_Some, none-some}
 use Rattle.vt_syntax.specs.declared.core_expr.Core.{Core}
 use Rattle.vt_syntax.specs.declared.core_expr.Form.{Hole}
@@ -21,7 +21,7 @@ use Rattle.vt_rules.specs.Witnesses.{WrongSum, WrongUse, NumberAndTruth, PairWit
 use Rattle.vt_rules.proofs.Inversion.{of_literal, of_known, of_fun, of_app}
 use Rattle.vt_rules.proofs.InversionAt.{at_hole, at_fun, at_function, at_argument, at_let_bound}
 use Rattle.vt_rules.proofs.WellFormedTypes.{result-well_formed}
-use Rattle.vt_rules.proofs.Shapes.{int_is_no_arrow}
+use Rattle.vt_rules.proofs.Shapes.{met, arrow_to_pair, int_is_no_arrow}
 use Rattle.vt_rules.proofs.NodesAbove.{int_is}
 use Rattle.vt_rules.proofs.Uses.{bool_is, two_images, two_images-well_formed, pair_typed, pair_has, plus_typed, plus_has, not_typed, not_has}
 
@@ -37,16 +37,16 @@ same_type special general e = subst (λ t. IsInstance t general) e (renaming-can
 sum_pair : PrincipalAt core_constants 4 (apply 5 (apply 3 (constant 1 0) (number 2 1)) (hole 4)) int int
 sum_pair = record {
   typed =
-    at.in_argument Empty 5 nowhere (apply 3 (constant 1 0) (number 2 1)) (hole 4) int int int
-    (ty.app Empty 3 nowhere (constant 1 0) (number 2 1) int (int ⇒ int) (plus_typed Empty 1) (ty.literal Empty 2 nowhere _)) (at.here Empty nowhere int int_is);
+      at.in_argument Empty 5 nowhere (apply 3 (constant 1 0) (number 2 1)) (hole 4) int int int
+      (ty.app Empty 3 nowhere (constant 1 0) (number 2 1) int (int ⇒ int) (plus_typed Empty 1) (ty.literal Empty 2 nowhere _)) (at.here Empty nowhere int int_is);
   general = λ own other d. (
-    let (from, f, g) = at_argument core_constants 4 Empty 5 nowhere (apply 3 (constant 1 0) (number 2 1)) (hole 4) other own (elim [ inl h ↦ h | inr h ↦ h ]) d in
-    let (is, _) = at_hole core_constants 4 Empty 4 nowhere from own g in
-    let (one, h, _) = of_app core_constants Empty 3 nowhere (constant 1 0) (number 2 1) (from ⇒ other) f in
-    let (_, from_is, other_is) = plus_has Empty 1 one from other h in
-    let e : int ≡ own = sym from_is ∙ is in
-    same_type (pair own other) (pair int int) (λ j. pair (e j) (sym other_is j))
-  );
+      let (from, f, g) = at_argument core_constants 4 Empty 5 nowhere (apply 3 (constant 1 0) (number 2 1)) (hole 4) other own (elim [ inl h ↦ h | inr h ↦ h ]) d in
+      let (is, _) = at_hole core_constants 4 Empty 4 nowhere from own g in
+      let (one, h, _) = of_app core_constants Empty 3 nowhere (constant 1 0) (number 2 1) (from ⇒ other) f in
+      let (_, from_is, other_is) = plus_has Empty 1 one from other h in
+      let e = met from int own from_is is in
+      same_type (pair own other) (pair int int) (λ j. pair (e j) (sym other_is j))
+      );
 }
 
 pub wrong_sum-change : WrongSum
@@ -56,21 +56,21 @@ wrong_sum-change = record { class_is = refl; principal = sum_pair; canonical = r
 use_pair : PrincipalAt core_constants 1 (bind 2 (hole 1) (apply 7 (apply 5 (constant 3 0) (name 4 0)) (number 6 1))) a int
 use_pair = record {
   typed =
-    let env = Empty ▸ Def Empty (hole 1) in
-    at.in_let_bound Empty 2 nowhere (hole 1) (apply 7 (apply 5 (constant 3 0) (name 4 0)) (number 6 1)) a int a (at.here Empty nowhere a tt)
-    (ty.app env 7 nowhere (apply 5 (constant 3 0) (name 4 0)) (number 6 1) int int
-    (ty.app env 5 nowhere (constant 3 0) (name 4 0) int (int ⇒ int) (plus_typed env 3) (ty.name_def env 4 nowhere 0 Empty (hole 1) int refl (ty.hole Empty 1 nowhere int int_is)))
-    (ty.literal env 6 nowhere _));
+      let env = Empty ▸ Def Empty (hole 1) in
+      at.in_let_bound Empty 2 nowhere (hole 1) (apply 7 (apply 5 (constant 3 0) (name 4 0)) (number 6 1)) a int a (at.here Empty nowhere a tt)
+      (ty.app env 7 nowhere (apply 5 (constant 3 0) (name 4 0)) (number 6 1) int int
+      (ty.app env 5 nowhere (constant 3 0) (name 4 0) int (int ⇒ int) (plus_typed env 3) (ty.name_def env 4 nowhere 0 Empty (hole 1) int refl (ty.hole Empty 1 nowhere int int_is)))
+      (ty.literal env 6 nowhere _));
   general = λ own other d. (
-    let body = apply 7 (apply 5 (constant 3 0) (name 4 0)) (number 6 1) in
-    let env = Empty ▸ Def Empty (hole 1) in
-    let (some, f, g) = at_let_bound core_constants 1 Empty 2 nowhere (hole 1) body other own (elim [ inl h ↦ elim h [ inl k ↦ k | inr k ↦ k ] | inr h ↦ h ]) d in
-    let (is, w) = at_hole core_constants 1 Empty 1 nowhere some own f in
-    let (from, h, _) = of_app core_constants env 7 nowhere (apply 5 (constant 3 0) (name 4 0)) (number 6 1) other g in
-    let (one, k, _) = of_app core_constants env 5 nowhere (constant 3 0) (name 4 0) (from ⇒ other) h in
-    let (_, _, other_is) = plus_has env 3 one from other k in
-    record { images = λ path. own; well_formed = λ path. subst IsWellFormed is w; same = λ j. pair own (sym other_is j) }
-  );
+      let body = apply 7 (apply 5 (constant 3 0) (name 4 0)) (number 6 1) in
+      let env = Empty ▸ Def Empty (hole 1) in
+      let (some, f, g) = at_let_bound core_constants 1 Empty 2 nowhere (hole 1) body other own (elim [ inl h ↦ elim h [ inl k ↦ k | inr k ↦ k ] | inr h ↦ h ]) d in
+      let (is, w) = at_hole core_constants 1 Empty 1 nowhere some own f in
+      let (from, h, _) = of_app core_constants env 7 nowhere (apply 5 (constant 3 0) (name 4 0)) (number 6 1) other g in
+      let (one, k, _) = of_app core_constants env 5 nowhere (constant 3 0) (name 4 0) (from ⇒ other) h in
+      let (_, _, other_is) = plus_has env 3 one from other k in
+      record { images = λ path. own; well_formed = λ path. subst IsWellFormed {x = some} is w; same = λ j. pair own (sym other_is j) }
+      );
 }
 
 pub wrong_use-change : WrongUse
@@ -86,32 +86,32 @@ right_part = apply 10 (constant 8 9) (hole 9)
 truth_pair : PrincipalAt core_constants 9 (lambda 12 (apply 11 left_part right_part)) bool (int ⇒ pair int bool)
 truth_pair = record {
   typed =
-    let env = Empty ▸ Mono int in
-    at.in_fun Empty 12 nowhere (apply 11 left_part right_part) int (pair int bool) bool int_is
-    (at.in_argument env 11 nowhere left_part right_part bool (pair int bool) bool
-    (ty.app env 7 nowhere (constant 1 13) (apply 6 (apply 4 (constant 2 0) (name 3 0)) (number 5 1)) int (bool ⇒ pair int bool) (pair_typed env 1 int bool int_is bool_is)
-    (ty.app env 6 nowhere (apply 4 (constant 2 0) (name 3 0)) (number 5 1) int int
-    (ty.app env 4 nowhere (constant 2 0) (name 3 0) int (int ⇒ int) (plus_typed env 2) (ty.name_mono env 3 nowhere 0 int refl)) (ty.literal env 5 nowhere _)))
-    (at.in_argument env 10 nowhere (constant 8 9) (hole 9) bool bool bool (not_typed env 8) (at.here env nowhere bool bool_is)));
+      let env = Empty ▸ Mono int in
+      at.in_fun Empty 12 nowhere (apply 11 left_part right_part) int (pair int bool) bool int_is
+      (at.in_argument env 11 nowhere left_part right_part bool (pair int bool) bool
+      (ty.app env 7 nowhere (constant 1 13) (apply 6 (apply 4 (constant 2 0) (name 3 0)) (number 5 1)) int (bool ⇒ pair int bool) (pair_typed env 1 int bool int_is bool_is)
+      (ty.app env 6 nowhere (apply 4 (constant 2 0) (name 3 0)) (number 5 1) int int
+      (ty.app env 4 nowhere (constant 2 0) (name 3 0) int (int ⇒ int) (plus_typed env 2) (ty.name_mono env 3 nowhere 0 int refl)) (ty.literal env 5 nowhere _)))
+      (at.in_argument env 10 nowhere (constant 8 9) (hole 9) bool bool bool (not_typed env 8) (at.here env nowhere bool bool_is)));
   general = λ own other d. (
-    let (from, to, w, f, e) = at_fun core_constants 9 Empty 12 nowhere (apply 11 left_part right_part) other own d in
-    let env = Empty ▸ Mono from in
-    let (second, g, h) = at_argument core_constants 9 env 11 nowhere left_part right_part to own
+      let (from, to, w, f, e) = at_fun core_constants 9 Empty 12 nowhere (apply 11 left_part right_part) other own d in
+      let env = Empty ▸ Mono from in
+      let (second, g, h) = at_argument core_constants 9 env 11 nowhere left_part right_part to own
       (elim [ inl k ↦ k | inr k ↦ elim k [ inl l ↦ elim l [ inl m ↦ m | inr m ↦ m ] | inr l ↦ l ] ]) f in
-    let (arg, k, l) = at_argument core_constants 9 env 10 nowhere (constant 8 9) (hole 9) second own (λ m. m) h in
-    let (is, _) = at_hole core_constants 9 env 9 nowhere arg own l in
-    let (arg_is, second_is) = not_has env 8 arg second k in
-    let (first, m, p) = of_app core_constants env 7 nowhere (constant 1 13) (apply 6 (apply 4 (constant 2 0) (name 3 0)) (number 5 1)) (second ⇒ to) g in
-    let to_is = pair_has env 1 first second to m in
-    let (q, r, _) = of_app core_constants env 6 nowhere (apply 4 (constant 2 0) (name 3 0)) (number 5 1) first p in
-    let (s, t, u) = of_app core_constants env 4 nowhere (constant 2 0) (name 3 0) (q ⇒ first) r in
-    let (s_is, _, first_is) = plus_has env 2 s q first t in
-    let s_from : s ≡ from = of_known core_constants env 3 nowhere 0 (Mono from) s refl u in
-    let from_is : int ≡ from = sym s_is ∙ s_from in
-    let own_is : bool ≡ own = sym arg_is ∙ is in
-    let result_is : int ⇒ pair int bool ≡ other = (λ j. from_is j ⇒ pair (sym first_is j) (sym second_is j)) ∙ (λ j. from ⇒ sym to_is j) ∙ sym e in
-    same_type (pair own other) (pair bool (int ⇒ pair int bool)) (λ j. pair (own_is j) (result_is j))
-  );
+      let (arg, k, l) = at_argument core_constants 9 env 10 nowhere (constant 8 9) (hole 9) second own (λ m. m) h in
+      let (is, _) = at_hole core_constants 9 env 9 nowhere arg own l in
+      let (arg_is, second_is) = not_has env 8 arg second k in
+      let (first, m, p) = of_app core_constants env 7 nowhere (constant 1 13) (apply 6 (apply 4 (constant 2 0) (name 3 0)) (number 5 1)) (second ⇒ to) g in
+      let to_is = pair_has env 1 first second to m in
+      let (q, r, _) = of_app core_constants env 6 nowhere (apply 4 (constant 2 0) (name 3 0)) (number 5 1) first p in
+      let (s, t, u) = of_app core_constants env 4 nowhere (constant 2 0) (name 3 0) (q ⇒ first) r in
+      let (s_is, _, first_is) = plus_has env 2 s q first t in
+      let s_from : s ≡ from = of_known core_constants env 3 nowhere 0 (Mono from) s refl u in
+      let from_is = met s from int s_from s_is in
+      let own_is = met arg bool own arg_is is in
+      let result_is = arrow_to_pair other from to first second int int bool e to_is from_is first_is second_is in
+      same_type (pair own other) (pair bool (int ⇒ pair int bool)) (λ j. pair (own_is j) (result_is j))
+      );
 }
 
 pub number_and_truth-change : NumberAndTruth
@@ -134,29 +134,29 @@ given = Var (1 ∷ 0 ∷ [])
 applied_pair : PrincipalAt core_constants 4 (lambda 8 (apply 7 first_part second_part)) (bool ⇒ applied) (given ⇒ pair given applied)
 applied_pair = record {
   typed =
-    let env = Empty ▸ Mono given in
-    at.in_fun Empty 8 nowhere (apply 7 first_part second_part) given (pair given applied) (bool ⇒ applied) tt
-    (at.in_argument env 7 nowhere first_part second_part applied (pair given applied) (bool ⇒ applied)
-    (ty.app env 3 nowhere (constant 1 13) (name 2 0) given (applied ⇒ pair given applied) (pair_typed env 1 given applied tt tt) (ty.name_mono env 2 nowhere 0 given refl))
-    (at.in_function env 6 nowhere (hole 4) (truth 5 true) bool applied (bool ⇒ applied) (at.here env nowhere (bool ⇒ applied) (refl, (bool_is, (tt, tt)))) (ty.literal env 5 nowhere _)));
+      let env = Empty ▸ Mono given in
+      at.in_fun Empty 8 nowhere (apply 7 first_part second_part) given (pair given applied) (bool ⇒ applied) tt
+      (at.in_argument env 7 nowhere first_part second_part applied (pair given applied) (bool ⇒ applied)
+      (ty.app env 3 nowhere (constant 1 13) (name 2 0) given (applied ⇒ pair given applied) (pair_typed env 1 given applied tt tt) (ty.name_mono env 2 nowhere 0 given refl))
+      (at.in_function env 6 nowhere (hole 4) (truth 5 true) bool applied (bool ⇒ applied) (at.here env nowhere (bool ⇒ applied) (refl, (bool_is, (tt, tt)))) (ty.literal env 5 nowhere _)));
   general = λ own other d. (
-    let (from, to, w, f, e) = at_fun core_constants 4 Empty 8 nowhere (apply 7 first_part second_part) other own d in
-    let env = Empty ▸ Mono from in
-    let (second, g, h) = at_argument core_constants 4 env 7 nowhere first_part second_part to own (elim [ inl k ↦ k | inr k ↦ k ]) f in
-    let (arg, k, l) = at_function core_constants 4 env 6 nowhere (hole 4) (truth 5 true) second own (λ m. m) h in
-    let (is, v) = at_hole core_constants 4 env 4 nowhere (arg ⇒ second) own k in
-    let arg_is = of_literal core_constants env 5 nowhere _ arg l in
-    let (first, m, p) = of_app core_constants env 3 nowhere (constant 1 13) (name 2 0) (second ⇒ to) g in
-    let to_is = pair_has env 1 first second to m in
-    let first_is : first ≡ from = of_known core_constants env 2 nowhere 0 (Mono from) first refl p in
-    let own_is : bool ⇒ second ≡ own = (λ j. sym arg_is j ⇒ second) ∙ is in
-    let result_is : from ⇒ pair from second ≡ other = (λ j. from ⇒ pair (sym first_is j) second) ∙ (λ j. from ⇒ sym to_is j) ∙ sym e in
-    record {
-      images = two_images second from;
-      well_formed = two_images-well_formed second from (result-well_formed arg second v) w;
-      same = λ j. pair (own_is j) (result_is j);
-    }
-  );
+      let (from, to, w, f, e) = at_fun core_constants 4 Empty 8 nowhere (apply 7 first_part second_part) other own d in
+      let env = Empty ▸ Mono from in
+      let (second, g, h) = at_argument core_constants 4 env 7 nowhere first_part second_part to own (elim [ inl k ↦ k | inr k ↦ k ]) f in
+      let (arg, k, l) = at_function core_constants 4 env 6 nowhere (hole 4) (truth 5 true) second own (λ m. m) h in
+      let (is, v) = at_hole core_constants 4 env 4 nowhere (arg ⇒ second) own k in
+      let arg_is = of_literal core_constants env 5 nowhere _ arg l in
+      let (first, m, p) = of_app core_constants env 3 nowhere (constant 1 13) (name 2 0) (second ⇒ to) g in
+      let to_is = pair_has env 1 first second to m in
+      let first_is : first ≡ from = of_known core_constants env 2 nowhere 0 (Mono from) first refl p in
+      let own_is = met (arg ⇒ second) (bool ⇒ second) own (λ j. arg_is j ⇒ second) is in
+      let result_is = arrow_to_pair other from to first second from from second e to_is refl first_is refl in
+      record {
+        images = two_images second from;
+        well_formed = two_images-well_formed second from (result-well_formed arg second v) w;
+        same = λ j. pair (own_is j) (result_is j);
+      }
+      );
 }
 
 -- a number applied to something is no second part of a pair

@@ -40,8 +40,10 @@ pub endless-fails : Endless
 endless-fails = record {
   fails = endless-fails_at;
   before =
-    below_three endless
-    (int, to.let_rec_above Empty 3 nowhere _ nowhere (lambda 2 (name 1 1)) (number 4 1) int (int ⇒ int) int int (lit< tt) (refl, tt) (refl, tt)
-    (to.fun (Empty ▸ Mono int) 2 nowhere (name 1 1) int int (lit≤ tt) (refl, tt) (to.name_mono (Empty ▸ Mono int ▸ Mono int) 1 nowhere 1 int (lit≤ tt) refl))
-    (to.literal_above (Empty ▸ Rec Empty (lambda 2 (name 1 1))) 4 nowhere _ int (lit< tt) (refl, tt)));
+      below_three endless (
+        int,
+        to.let_rec_above Empty 3 nowhere _ nowhere (lambda 2 (name 1 1)) (number 4 1) int (int ⇒ int) int int (lit< tt) (refl, tt) (refl, tt)
+            (to.fun (Empty ▸ Mono int) 2 nowhere (name 1 1) int int (lit≤ tt) (refl, tt) (to.name_mono (Empty ▸ Mono int ▸ Mono int) 1 nowhere 1 int (lit≤ tt) refl))
+            (to.literal_above (Empty ▸ Rec Empty (lambda 2 (name 1 1))) 4 nowhere _ int (lit< tt) (refl, tt)),
+      );
 }

@@ -21,5 +21,7 @@ pub mod FailingExamples
 pub mod Uses
 pub mod MeaningExamples
 pub mod ChangeExamples
+pub mod Prefixes
+pub mod Replacing
 pub mod OneList
 pub mod OneChanges

@@ -19,20 +19,20 @@ identity : Principal core_constants (lambda 4 (name 1 0)) (a ⇒ a)
 identity = record {
   typed = ty.fun Empty 4 nowhere (name 1 0) a a tt (ty.name_mono (Empty ▸ Mono a) 1 nowhere 0 a refl);
   general = λ other d. (
-    let (from, to, w, f, e) = of_fun core_constants Empty 4 nowhere (name 1 0) other d in
-    let is = of_known core_constants (Empty ▸ Mono from) 1 nowhere 0 (Mono from) to refl f in
-    record { images = λ path. from; well_formed = λ path. w; same = ap (λ t. from ⇒ t) (sym is) ∙ sym e }
-  );
+      let (from, to, w, f, e) = of_fun core_constants Empty 4 nowhere (name 1 0) other d in
+      let is = of_known core_constants (Empty ▸ Mono from) 1 nowhere 0 (Mono from) to refl f in
+      record { images = λ path. from; well_formed = λ path. w; same = ap (λ t. from ⇒ t) (sym is) ∙ sym e }
+      );
 }
 
 to_number : Principal core_constants (lambda 4 (number 2 1)) (a ⇒ int)
 to_number = record {
   typed = ty.fun Empty 4 nowhere (number 2 1) a int tt (ty.literal (Empty ▸ Mono a) 2 nowhere _);
   general = λ other d. (
-    let (from, to, w, f, e) = of_fun core_constants Empty 4 nowhere (number 2 1) other d in
-    let is = of_literal core_constants (Empty ▸ Mono from) 2 nowhere _ to f in
-    record { images = λ path. from; well_formed = λ path. w; same = ap (λ t. from ⇒ t) (sym is) ∙ sym e }
-  );
+      let (from, to, w, f, e) = of_fun core_constants Empty 4 nowhere (number 2 1) other d in
+      let is = of_literal core_constants (Empty ▸ Mono from) 2 nowhere _ to f in
+      record { images = λ path. from; well_formed = λ path. w; same = ap (λ t. from ⇒ t) (sym is) ∙ sym e }
+      );
 }
 
 pub number_or_itself-means : NumberOrItself
@@ -53,22 +53,22 @@ module _ (env : Env) (n m : ℕ) where
 both_used : Principal core_constants (lambda 21 (bind 11 (lambda 10 (name 8 0)) (two_uses 12))) (a ⇒ pair int bool)
 both_used = record {
   typed =
-    let env = Empty ▸ Mono a in
-    let inner = lambda 10 (name 8 0) in
-    ty.fun Empty 21 nowhere _ a (pair int bool) tt
-    (ty.let_in env 11 nowhere inner (two_uses 12) (a ⇒ a) (pair int bool) (identity_typed env 10 8 a tt)
-    (uses_typed (env ▸ Def env inner) (Def env inner) refl 12 int bool int_is bool_is (identity_typed env 10 8 int int_is) (identity_typed env 10 8 bool bool_is)));
+      let env = Empty ▸ Mono a in
+      let inner = lambda 10 (name 8 0) in
+      ty.fun Empty 21 nowhere _ a (pair int bool) tt
+      (ty.let_in env 11 nowhere inner (two_uses 12) (a ⇒ a) (pair int bool) (identity_typed env 10 8 a tt)
+      (uses_typed (env ▸ Def env inner) (Def env inner) refl 12 int bool int_is bool_is (identity_typed env 10 8 int int_is) (identity_typed env 10 8 bool bool_is)));
   general = λ other d. (
-    let inner = lambda 10 (name 8 0) in
-    let (from, to, w, f, e) = of_fun core_constants Empty 21 nowhere (bind 11 inner (two_uses 12)) other d in
-    let env = Empty ▸ Mono from in
-    let (some, _, g) = of_let core_constants env 11 nowhere inner (two_uses 12) to f in
-    let (x, y, h, k, is) = uses_have (env ▸ Def env inner) (Def env inner) refl 12 to g in
-    let x_is = identity_has env 10 8 int x h in
-    let y_is = identity_has env 10 8 bool y k in
-    let whole : to ≡ pair int bool = is ∙ (λ j. pair (x_is j) (y_is j)) in
-    record { images = λ path. from; well_formed = λ path. w; same = ap (λ t. from ⇒ t) (sym whole) ∙ sym e }
-  );
+      let inner = lambda 10 (name 8 0) in
+      let (from, to, w, f, e) = of_fun core_constants Empty 21 nowhere (bind 11 inner (two_uses 12)) other d in
+      let env = Empty ▸ Mono from in
+      let (some, _, g) = of_let core_constants env 11 nowhere inner (two_uses 12) to f in
+      let (x, y, h, k, is) = uses_have (env ▸ Def env inner) (Def env inner) refl 12 to g in
+      let x_is = identity_has env 10 8 int x h in
+      let y_is = identity_has env 10 8 bool y k in
+      let whole : to ≡ pair int bool = is ∙ (λ j. pair (x_is j) (y_is j)) in
+      record { images = λ path. from; well_formed = λ path. w; same = ap (λ t. from ⇒ t) (sym whole) ∙ sym e }
+      );
 }
 
 -- `fun z -> if true then y else z`, under `y`
@@ -106,18 +106,18 @@ one_or_all-means = (λ decision e. rw e one_for_all, λ decision e. rw e (both_u
 pub two_later_uses-means : TwoLaterUses
 two_later_uses-means = record {
   typed =
-    let body = lambda 2 (name 1 0) in
-    ty.let_rec Empty 3 nowhere [] nowhere body (two_uses 4) (int ⇒ int) (pair int bool) (refl, (int_is, (int_is, tt))) (identity_typed (Empty ▸ Mono (int ⇒ int)) 2 1 int int_is)
-    (uses_typed (Empty ▸ Rec Empty body) (Rec Empty body) refl 4 int bool int_is bool_is
-    ((refl, (int_is, (int_is, tt))), identity_typed (Empty ▸ Mono (int ⇒ int)) 2 1 int int_is)
-    ((refl, (bool_is, (bool_is, tt))), identity_typed (Empty ▸ Mono (bool ⇒ bool)) 2 1 bool bool_is));
+      let body = lambda 2 (name 1 0) in
+      ty.let_rec Empty 3 nowhere [] nowhere body (two_uses 4) (int ⇒ int) (pair int bool) (refl, (int_is, (int_is, tt))) (identity_typed (Empty ▸ Mono (int ⇒ int)) 2 1 int int_is)
+      (uses_typed (Empty ▸ Rec Empty body) (Rec Empty body) refl 4 int bool int_is bool_is
+      ((refl, (int_is, (int_is, tt))), identity_typed (Empty ▸ Mono (int ⇒ int)) 2 1 int int_is)
+      ((refl, (bool_is, (bool_is, tt))), identity_typed (Empty ▸ Mono (bool ⇒ bool)) 2 1 bool bool_is));
   general = λ other d. (
-    let body = lambda 2 (name 1 0) in
-    let (some, w, _, g) = of_let_rec core_constants Empty 3 nowhere [] nowhere body (two_uses 4) other d in
-    let (x, y, (v, h), (u, k), is) = uses_have (Empty ▸ Rec Empty body) (Rec Empty body) refl 4 other g in
-    let x_is = identity_has (Empty ▸ Mono (int ⇒ x)) 2 1 int x h in
-    let y_is = identity_has (Empty ▸ Mono (bool ⇒ y)) 2 1 bool y k in
-    let whole : other ≡ pair int bool = is ∙ (λ j. pair (x_is j) (y_is j)) in
-    record { images = Var; well_formed = λ path. tt; same = sym whole }
-  );
+      let body = lambda 2 (name 1 0) in
+      let (some, w, _, g) = of_let_rec core_constants Empty 3 nowhere [] nowhere body (two_uses 4) other d in
+      let (x, y, (v, h), (u, k), is) = uses_have (Empty ▸ Rec Empty body) (Rec Empty body) refl 4 other g in
+      let x_is = identity_has (Empty ▸ Mono (int ⇒ x)) 2 1 int x h in
+      let y_is = identity_has (Empty ▸ Mono (bool ⇒ y)) 2 1 bool y k in
+      let whole : other ≡ pair int bool = is ∙ (λ j. pair (x_is j) (y_is j)) in
+      record { images = Var; well_formed = λ path. tt; same = sym whole }
+      );
 }

@@ -35,11 +35,11 @@ module _ (K : List Constant) (program : Core) where
 
   module _ (leaves : List Leaf) where
     -- the leaf of a line
-    abbrev HasLeaf : ChangeLine → Type 0
-    HasLeaf line = (leaf : Leaf) × (slice_get leaves line.leaf ≡ Some leaf) × IsChangeOf K program leaf line
+    abbrev IsLineOfSome : ChangeLine → Type 0
+    IsLineOfSome line = (leaf : Leaf) × (slice_get leaves line.leaf ≡ Some leaf) × IsChangeOf K program leaf line
 
-    leaf_of : (lines : List ChangeLine) → All HasLeaf lines → (line : ChangeLine) → Contains lines line → HasLeaf line
-    leaf_of lines all line (k, within, e) = subst HasLeaf e (all k line within)
+    leaf_of : (lines : List ChangeLine) → All IsLineOfSome lines → (line : ChangeLine) → Contains lines line → IsLineOfSome line
+    leaf_of lines all line (k, within, e) = subst IsLineOfSome e (all k line within)
 
     also_there : (lines others : List ChangeLine) → IsChanges K program leaves lines → IsChanges K program leaves others → (line : ChangeLine) → Contains lines line → Contains others line
     also_there lines others changes other line h =

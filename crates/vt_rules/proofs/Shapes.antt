@@ -37,6 +37,14 @@ int_is_no_arrow from to e = cc
 pub no_int_and_bool : (one other : Plain) → one ≡ int → other ≡ bool → one ≡ other → ⊥
 no_int_and_bool one other e f g = cc
 
+-- two types that are equal to a third
+pub met : (shared one other : Plain) → shared ≡ one → shared ≡ other → one ≡ other
+met shared one other e f = sym e ∙ f
+
+-- a function to a pair, by its parts
+pub arrow_to_pair : (whole from to left right x y z : Plain) → whole ≡ from ⇒ to → to ≡ pair left right → from ≡ x → left ≡ y → right ≡ z → x ⇒ pair y z ≡ whole
+arrow_to_pair whole from to left right x y z e f g h k = sym (e ∙ (λ j. g j ⇒ (f ∙ (λ i. pair (h i) (k i))) j))
+
 -- no type is a part of itself
 pub no_endless : (from to : Plain) → from ⇒ to ≡ from → ⊥
 no_endless from to e = let n = ap plain_nodes e in omega arith

@@ -32,6 +32,18 @@ with_hole leaf node at (let_rec_of name name_at n by bound m to body) =
 with_hole leaf node at (choice_of dim n by left m to right) =
     core node at (choice_form dim (with_hole leaf n by left) (with_hole leaf m to right))
 
+-- a literal, a name or a constant of a form, whose own number is `node`, has the number of the leaf
+abbrev pub HasLeaf : ℕ → ℕ → Form → Type 0
+HasLeaf leaf node (Literal literal) = node ≡ leaf
+HasLeaf leaf node (Name distance) = node ≡ leaf
+HasLeaf leaf node (Const id) = node ≡ leaf
+HasLeaf leaf node Hole = ⊥
+HasLeaf leaf node (fun_of n at body) = HasLeaf leaf n body
+HasLeaf leaf node (app_of n at function m by argument) = HasLeaf leaf n function ⊎ HasLeaf leaf m argument
+HasLeaf leaf node (let_of n at bound m by body) = HasLeaf leaf n bound ⊎ HasLeaf leaf m body
+HasLeaf leaf node (let_rec_of name name_at n at bound m by body) = HasLeaf leaf n bound ⊎ HasLeaf leaf m body
+HasLeaf leaf node (choice_of dim n at left m by right) = HasLeaf leaf n left ⊎ HasLeaf leaf m right
+
 -- a program with a leaf replaced by a hole
 abbrev pub without : Leaf → Core → Core
 without leaf program = with_hole leaf.node program.node program.span program.form

@@ -64,9 +64,9 @@ two_uses n =
 abbrev pub one_or_all : CoreProgram
 one_or_all =
     alone (lambda 21 (bind 11 (lambda 10 (either 9
-      (apply 7 (apply 5 (apply 3 (constant 1 16) (truth 2 true)) (name 4 1)) (name 6 0))
-      (name 8 0)))
-      (two_uses 12)))
+    (apply 7 (apply 5 (apply 3 (constant 1 16) (truth 2 true)) (name 4 1)) (name 6 0))
+    (name 8 0)))
+    (two_uses 12)))
 
 -- fun x -> x x
 abbrev pub self_application : Core
