@@ -8,6 +8,7 @@ ghost use Rattle.vt_rules.specs.Witnesses.{
   TwoRecursiveUses,
   TwoLaterUses,
   NumberApplied,
+  NumberAppliedWithin,
   Endless,
   WrongSum,
   WrongUse,
@@ -48,6 +49,11 @@ pub fn two_later_uses()
 /// In `1 true` the application fails first.
 pub fn number_applied()
     ensures { NumberApplied }
+{}
+
+/// In `fun x -> 1 true` the application fails first.
+pub fn number_applied_within()
+    ensures { NumberAppliedWithin }
 {}
 
 /// In `let rec f = fun x -> f in 1` the `let rec` fails first.

@@ -80,6 +80,10 @@ unused_error = bind 4 (apply 3 (number 1 1) (truth 2 true)) (number 5 2)
 abbrev pub number_applied : Core
 number_applied = apply 3 (number 1 1) (truth 2 true)
 
+-- fun x -> 1 true
+abbrev pub number_applied_within : Core
+number_applied_within = lambda 4 number_applied
+
 -- 1 + true
 abbrev pub wrong_sum : Core
 wrong_sum = apply 5 (apply 3 (constant 1 0) (number 2 1)) (truth 4 true)

@@ -9,7 +9,7 @@ use Rattle.vt_rules.specs.Principal.{IsTyped, Principal}
 use Rattle.vt_rules.specs.Meaning.{Means}
 use Rattle.vt_rules.specs.Failing.{FirstFailing}
 use Rattle.vt_rules.specs.Changes.{IsChangeOf, IsChanges}
-use Rattle.vt_rules.specs.Examples.{leaf_at, number_or_itself, one_or_all, self_application, unused_error, number_applied, wrong_sum, wrong_use, endless, two_recursive_uses, two_later_uses, number_and_truth, pair_with_error}
+use Rattle.vt_rules.specs.Examples.{leaf_at, number_or_itself, one_or_all, self_application, unused_error, number_applied, number_applied_within, wrong_sum, wrong_use, endless, two_recursive_uses, two_later_uses, number_and_truth, pair_with_error}
 
 -- What the definitions say of small programs, over the constants of the language. Beside each statement
 -- stands which wrong definition it rules out.
@@ -19,7 +19,7 @@ abbrev MeansWith : CoreProgram → Side → Option Plain → Type 0
 MeansWith program side outcome = (decision : List Side) → slice_get decision 0 ≡ Some side → Means core_constants program decision outcome
 
 -- `fun x -> @A{x, 1}`: with the first alternative `'a -> 'a`, with the second `'a -> Int`.
--- Not so: a selection that takes the other alternative; a principal type that is only some type.
+-- Not so: a selection that takes the other alternative; a choice whose alternatives have one type.
 abbrev pub NumberOrItself : Type 0
 NumberOrItself = MeansWith number_or_itself Left (Some (a ⇒ a)) × MeansWith number_or_itself Right (Some (a ⇒ int))
 
@@ -54,8 +54,13 @@ TwoLaterUses = Principal core_constants two_later_uses (pair int bool)
 abbrev pub NumberApplied : Type 0
 NumberApplied = FirstFailing core_constants number_applied 3
 
+-- `fun x -> 1 true`: the application, node 3, fails first.
+-- Not so: a node above the number with parts that need no type.
+abbrev pub NumberAppliedWithin : Type 0
+NumberAppliedWithin = FirstFailing core_constants number_applied_within 3
+
 -- `let rec f = fun x -> f in 1`: the `let rec`, node 3, fails first.
--- Not so: a `let rec` that is checked after its body; one above the number with parts that need no type.
+-- Not so: a failure at the name or at the function inside.
 abbrev pub Endless : Type 0
 Endless = FirstFailing core_constants endless 3
 
@@ -75,7 +80,7 @@ abbrev pub NumberAndTruth : Type 0
 NumberAndTruth = IsChangeOf core_constants number_and_truth (leaf_at 9 1) (record { leaf = 3; class = 1; wanted = bool; result = int ⇒ pair int bool })
 
 -- `fun y -> (y, 1 true)`: one change; the leaf `1` wants `Bool -> 'a`, and the result is `'b -> 'b * 'a`.
--- Not so: a pair of types whose variables are apart; a list of changes that has leaves which do not cure.
+-- Not so: a pair of types whose variables are named apart; a list of changes that has leaves which do not cure.
 abbrev pub PairWithError : Type 0
 PairWithError =
     IsChanges core_constants pair_with_error (leaf_at 2 1 ∷ leaf_at 4 0 ∷ leaf_at 5 0 ∷ [])
