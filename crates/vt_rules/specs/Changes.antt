@@ -16,7 +16,8 @@ abbrev pub where_same : Bool → Core → Core → Core
 where_same true one other = one
 where_same false one other = other
 
--- An expression with the node of a number replaced by a hole, which keeps the number and the span.
+-- An expression with the leaf of a number, a literal, a name or a constant, replaced by a hole, which keeps
+-- the number and the span.
 abbrev pub with_hole : ℕ → ℕ → Span → Form → Core
 with_hole leaf node at (Literal literal) = where_same (nat_eq node leaf) (core node at Hole) (core node at (Literal literal))
 with_hole leaf node at (Name distance) = where_same (nat_eq node leaf) (core node at Hole) (core node at (Name distance))

@@ -77,7 +77,7 @@ WrongUse = IsChangeOf core_constants (whole wrong_use) (leaf_at 1 0) (record { l
 -- `fun x -> (x + 1, not x)`: the second `x` wants `Bool`, and the result is `Int -> Int * Bool`.
 -- Not so: a change that alters all uses of a name at once.
 abbrev pub NumberAndTruth : Type 0
-NumberAndTruth = IsChangeOf core_constants number_and_truth (leaf_at 9 1) (record { leaf = 3; class = 1; wanted = bool; result = int ⇒ pair int bool })
+NumberAndTruth = IsChangeOf core_constants number_and_truth (leaf_at 9 1) (record { leaf = 4; class = 1; wanted = bool; result = int ⇒ pair int bool })
 
 -- `fun y -> (y, 1 true)`: one change; the leaf `1` wants `Bool -> 'a`, and the result is `'b -> 'b * 'a`.
 -- Not so: a pair of types whose variables are named apart; a list of changes that has leaves which do not cure.
