@@ -2,11 +2,11 @@ use Rattle.std.proofs.Common.{◌≡◌, ℕ, List, refl, inl, inr}
 use Rattle.vt_lex.specs.declared.span.Span.{Span}
 use Rattle.vt_syntax.specs.declared.core_expr.Core.{Core}
 use Rattle.vt_syntax.specs.declared.core_expr.Form.{Hole}
-use Rattle.vt_syntax.specs.CoreTrees.{core, fun_form, app_form, let_form}
+use Rattle.vt_syntax.specs.CoreTrees.{core, fun_form, app_form, let_form, let_rec_form}
 use Rattle.vt_type.specs.declared.plain.Plain.{Plain}
 use Rattle.vt_type.specs.Plain.{IsWellFormed}
 use Rattle.vt_type.specs.Constants.{Constant, ◌⇒◌}
-use Rattle.vt_rules.specs.Env.{Env, ◌▸◌, Mono, Def}
+use Rattle.vt_rules.specs.Env.{Env, ◌▸◌, Mono, Def, Rec}
 use Rattle.vt_rules.specs.Typing.{Ty}
 use Rattle.vt_rules.specs.TypingAt.{TyAt, HoldsHole}
 use Rattle.vt_rules.specs.TypingAt as at
@@ -15,7 +15,7 @@ use Rattle.vt_rules.specs.TypingAt as at
 
 module _ (K : List Constant) (mark : ℕ) where
   -- the hole is written in the expression
-  holds : (env : Env) (e : Core) (type wanted : Plain) → TyAt K mark env e type wanted → HoldsHole mark e.node e.form
+  pub holds : (env : Env) (e : Core) (type wanted : Plain) → TyAt K mark env e type wanted → HoldsHole mark e.node e.form
   holds _ _ _ _ (at.here env by type w) = refl
   holds _ _ _ _ (at.in_fun env n by body from to wanted w d) = holds _ body to wanted d
   holds _ _ _ _ (at.in_function env n by function argument from to wanted d f) = inl (holds env function _ wanted d)
@@ -46,3 +46,20 @@ module _ (K : List Constant) (mark : ℕ) where
       → (some : Plain) × TyAt K mark env bound some wanted × Ty K (env ▸ Def env bound) body type
   at_let_bound _ _ _ _ _ _ _ none (at.in_let_bound env n by bound body some type wanted d f) = (some, d, f)
   at_let_bound _ _ _ _ _ _ _ none (at.in_let_body env n by bound body some type wanted d f) = absurd (none (holds _ body type wanted f))
+
+  pub at_let_body : (env : Env) (n : ℕ) (by : Span) (bound body : Core) (type wanted : Plain) → (HoldsHole mark bound.node bound.form → ⊥) → TyAt K mark env (core n by (let_form bound body)) type wanted
+      → (some : Plain) × Ty K env bound some × TyAt K mark (env ▸ Def env bound) body type wanted
+  at_let_body _ _ _ _ _ _ _ none (at.in_let_bound env n by bound body some type wanted d f) = absurd (none (holds env bound some wanted d))
+  at_let_body _ _ _ _ _ _ _ none (at.in_let_body env n by bound body some type wanted d f) = (some, d, f)
+
+  pub at_rec_bound : (env : Env) (n : ℕ) (by : Span) (name : List ℕ) (name_at : Span) (bound body : Core) (type wanted : Plain) → (HoldsHole mark body.node body.form → ⊥)
+      → TyAt K mark env (core n by (let_rec_form name name_at bound body)) type wanted
+      → (some : Plain) × IsWellFormed some × TyAt K mark (env ▸ Mono some) bound some wanted × Ty K (env ▸ Rec env bound) body type
+  at_rec_bound _ _ _ _ _ _ _ _ _ none (at.in_rec_bound env n by name name_at bound body some type wanted w d f) = (some, w, d, f)
+  at_rec_bound _ _ _ _ _ _ _ _ _ none (at.in_rec_body env n by name name_at bound body some type wanted w d f) = absurd (none (holds _ body type wanted f))
+
+  pub at_rec_body : (env : Env) (n : ℕ) (by : Span) (name : List ℕ) (name_at : Span) (bound body : Core) (type wanted : Plain) → (HoldsHole mark bound.node bound.form → ⊥)
+      → TyAt K mark env (core n by (let_rec_form name name_at bound body)) type wanted
+      → (some : Plain) × IsWellFormed some × Ty K (env ▸ Mono some) bound some × TyAt K mark (env ▸ Rec env bound) body type wanted
+  at_rec_body _ _ _ _ _ _ _ _ _ none (at.in_rec_bound env n by name name_at bound body some type wanted w d f) = absurd (none (holds _ bound some wanted d))
+  at_rec_body _ _ _ _ _ _ _ _ _ none (at.in_rec_body env n by name name_at bound body some type wanted w d f) = (some, w, d, f)
