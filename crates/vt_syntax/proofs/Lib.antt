@@ -1,2 +1,5 @@
 pub mod SurfaceMakers
 pub mod CoreMakers
+pub mod SurfaceSeen
+pub mod CoreSeen
+pub mod Holing

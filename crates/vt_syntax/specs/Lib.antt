@@ -6,3 +6,4 @@ pub mod Selection
 pub mod Programs
 pub mod Checking
 pub mod Scoping
+pub mod Holes

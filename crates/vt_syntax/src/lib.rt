@@ -11,11 +11,15 @@ mod core_makers;
 mod core_program;
 mod expr;
 mod expr_makers;
+mod holes;
 mod leaf;
 mod program;
+#[cfg(test)]
+mod tests;
 
 pub use core_expr::{Core, Form, Lit};
 pub use core_program::{CoreDef, CoreDefs, CoreProgram};
 pub use expr::{Expr, ExprForm, Exprs, Op};
+pub use holes::replace_leaf;
 pub use leaf::{Leaf, Leaves};
 pub use program::{Def, Defs, Program};
