@@ -8,7 +8,8 @@ use Rattle.vt_type.specs.declared.plain.Plain.{Plain}
 use Rattle.vt_type.specs.Constants.{Constant}
 use Rattle.vt_rules.specs.Env.{Empty}
 use Rattle.vt_rules.specs.TypingAt.{TyAt, HoldsHole}
-use Rattle.vt_rules.specs.Changes.{where_same, with_hole, without, HasLeaf, Cures}
+use Rattle.vt_syntax.specs.Holes.{where_same, with_hole}
+use Rattle.vt_rules.specs.Changes.{without, HasLeaf, Cures}
 use Rattle.vt_rules.proofs.Marking.{marked}
 
 -- A leaf that is replaced by a hole is a hole.

@@ -1,37 +1,15 @@
-use Rattle.std.specs.Prelude.{◌≡◌, ◌⊎◌, ℕ, ◌<◌, nat_eq, List, Bool, true, false, Contains, AllPairs, slice_get, Some, map}
+use Rattle.std.specs.Prelude.{◌≡◌, ◌⊎◌, ℕ, ◌<◌, List, Contains, AllPairs, slice_get, Some, map}
 use Rattle.std.specs.List.{All}
-use Rattle.vt_lex.specs.declared.span.Span.{Span}
 use Rattle.vt_syntax.specs.declared.core_expr.Core.{Core}
 use Rattle.vt_syntax.specs.declared.core_expr.Form.{Form, Literal, Name, Const, Hole}
 use Rattle.vt_syntax.specs.declared.leaf.Leaf.{Leaf}
-use Rattle.vt_syntax.specs.CoreTrees.{core, fun_of, app_of, let_of, let_rec_of, choice_of, fun_form, app_form, let_form, let_rec_form, choice_form}
+use Rattle.vt_syntax.specs.Holes.{core_with_hole}
+use Rattle.vt_syntax.specs.CoreTrees.{fun_of, app_of, let_of, let_rec_of, choice_of}
 use Rattle.vt_type.specs.declared.change.ChangeLine.{ChangeLine}
 use Rattle.vt_type.specs.Plain.{plain_nodes}
 use Rattle.vt_type.specs.Canonical.{IsCanonical}
 use Rattle.vt_type.specs.Constants.{Constant, pair}
 use Rattle.vt_rules.specs.Principal.{IsTyped, PrincipalAt}
-
--- the first of two where the test holds
-abbrev pub where_same : Bool → Core → Core → Core
-where_same true one other = one
-where_same false one other = other
-
--- An expression with the leaf of a number, a literal, a name or a constant, replaced by a hole, which keeps
--- the number and the span.
-abbrev pub with_hole : ℕ → ℕ → Span → Form → Core
-with_hole leaf node at (Literal literal) = where_same (nat_eq node leaf) (core node at Hole) (core node at (Literal literal))
-with_hole leaf node at (Name distance) = where_same (nat_eq node leaf) (core node at Hole) (core node at (Name distance))
-with_hole leaf node at (Const id) = where_same (nat_eq node leaf) (core node at Hole) (core node at (Const id))
-with_hole leaf node at Hole = core node at Hole
-with_hole leaf node at (fun_of n by body) = core node at (fun_form (with_hole leaf n by body))
-with_hole leaf node at (app_of n by function m to argument) =
-    core node at (app_form (with_hole leaf n by function) (with_hole leaf m to argument))
-with_hole leaf node at (let_of n by bound m to body) =
-    core node at (let_form (with_hole leaf n by bound) (with_hole leaf m to body))
-with_hole leaf node at (let_rec_of name name_at n by bound m to body) =
-    core node at (let_rec_form name name_at (with_hole leaf n by bound) (with_hole leaf m to body))
-with_hole leaf node at (choice_of dim n by left m to right) =
-    core node at (choice_form dim (with_hole leaf n by left) (with_hole leaf m to right))
 
 -- a literal, a name or a constant of a form, whose own number is `node`, has the number of the leaf
 abbrev pub HasLeaf : ℕ → ℕ → Form → Type 0
@@ -47,7 +25,7 @@ HasLeaf leaf node (choice_of dim n at left m by right) = HasLeaf leaf n left ⊎
 
 -- a program with a leaf replaced by a hole
 abbrev pub without : Leaf → Core → Core
-without leaf program = with_hole leaf.node program.node program.span program.form
+without leaf program = core_with_hole leaf.node program
 
 -- a leaf cures where the program has a type once a hole stands for the leaf
 abbrev pub Cures : List Constant → Core → Leaf → Type 0
