@@ -3,7 +3,7 @@ use Rattle.vt_lex.specs.declared.span.Span.{Span}
 use Rattle.vt_syntax.specs.declared.expr.Op.{Op}
 use Rattle.vt_syntax.specs.declared.expr.Expr.{Expr}
 use Rattle.vt_syntax.specs.declared.expr.Exprs.{Exprs, More}
-use Rattle.vt_syntax.specs.declared.expr.ExprForm.{ExprForm, Fun, Let, If, Match, Op as Operation, Apply, Pair, Choice}
+use Rattle.vt_syntax.specs.declared.expr.ExprForm.{Fun, Let, If, Match, Op as Operation, Apply, Pair, Choice}
 use Rattle.vt_syntax.specs.declared.expr.ExprForm.TheBlock as block
 use Rattle.vt_syntax.specs.SurfaceTrees.{fun_form, let_form, if_form, match_form, op_form, apply_form, pair_form, choice_form, exprs}
 

@@ -1,24 +1,22 @@
-use Rattle.std.proofs.Common.{◌≡◌, IfOk, subst}
-use Rattle.vt_syntax.specs.declared.core_expr.Core.{Core}
 use Rattle.vt_syntax.proofs.Holing.{fun_holed, app_holed, let_holed, let_rec_holed, choice_holed}
 use Rattle.vt_syntax.proofs.holes.+holed.Goals as goal
 
 pub returns-in_ok-body-in-Fun : goal.returns-in_ok-body-in-Fun
 returns-in_ok-body-in-Fun t c =
-    subst (λ (t : Core). IfOk c.fun.result (λ made. made ≡ t)) (fun_holed c.args.leaf c.args.expr.now _ c.get.result.now _ c.in-Fun.is c.get.ensures c.in_ok-body-in-Fun.ensures) c.fun.ensures
+    rw (fun_holed c.args.leaf c.args.expr.now _ c.get.result.now _ c.in-Fun.is c.get.ensures c.in_ok-body-in-Fun.ensures) at c.fun.ensures
 
 pub returns-in_ok-argument-in-App : goal.returns-in_ok-argument-in-App
 returns-in_ok-argument-in-App t c =
-    subst (λ (t : Core). IfOk c.app.result (λ made. made ≡ t)) (app_holed c.args.leaf c.args.expr.now _ _ c.get-in-App.result.now c.get-in-App-2.result.now _ _ c.in-App.is c.get-in-App.ensures c.get-in-App-2.ensures c.in_ok-function-in-App.ensures c.in_ok-argument-in-App.ensures) c.app.ensures
+    rw (app_holed c.args.leaf c.args.expr.now _ _ c.get-in-App.result.now c.get-in-App-2.result.now _ _ c.in-App.is c.get-in-App.ensures c.get-in-App-2.ensures c.in_ok-function-in-App.ensures c.in_ok-argument-in-App.ensures) at c.app.ensures
 
 pub returns-in_ok-body-in-Let : goal.returns-in_ok-body-in-Let
 returns-in_ok-body-in-Let t c =
-    subst (λ (t : Core). IfOk c.let_in.result (λ made. made ≡ t)) (let_holed c.args.leaf c.args.expr.now _ _ c.get-in-Let.result.now c.get-in-Let-2.result.now _ _ c.in-Let.is c.get-in-Let.ensures c.get-in-Let-2.ensures c.in_ok-bound-in-Let.ensures c.in_ok-body-in-Let.ensures) c.let_in.ensures
+    rw (let_holed c.args.leaf c.args.expr.now _ _ c.get-in-Let.result.now c.get-in-Let-2.result.now _ _ c.in-Let.is c.get-in-Let.ensures c.get-in-Let-2.ensures c.in_ok-bound-in-Let.ensures c.in_ok-body-in-Let.ensures) at c.let_in.ensures
 
 pub returns-in_ok-body-in-LetRec : goal.returns-in_ok-body-in-LetRec
 returns-in_ok-body-in-LetRec t c =
-    subst (λ (t : Core). IfOk c.let_rec.result (λ made. made ≡ t)) (let_rec_holed c.args.leaf c.args.expr.now _ _ _ _ _ c.get-in-LetRec.result.now c.get-in-LetRec-2.result.now _ _ c.in-LetRec.is c.in_ok-name-in-LetRec.ensures c.get-in-LetRec.ensures c.get-in-LetRec-2.ensures c.in_ok-bound-in-LetRec.ensures c.in_ok-body-in-LetRec.ensures) c.let_rec.ensures
+    rw (let_rec_holed c.args.leaf c.args.expr.now _ _ _ _ _ c.get-in-LetRec.result.now c.get-in-LetRec-2.result.now _ _ c.in-LetRec.is c.in_ok-name-in-LetRec.ensures c.get-in-LetRec.ensures c.get-in-LetRec-2.ensures c.in_ok-bound-in-LetRec.ensures c.in_ok-body-in-LetRec.ensures) at c.let_rec.ensures
 
 pub returns-in_ok-right-in-Choice : goal.returns-in_ok-right-in-Choice
 returns-in_ok-right-in-Choice t c =
-    subst (λ (t : Core). IfOk c.choice.result (λ made. made ≡ t)) (choice_holed c.args.leaf c.args.expr.now _ _ _ c.get-in-Choice.result.now c.get-in-Choice-2.result.now _ _ c.in-Choice.is c.get-in-Choice.ensures c.get-in-Choice-2.ensures c.in_ok-left-in-Choice.ensures c.in_ok-right-in-Choice.ensures) c.choice.ensures
+    rw (choice_holed c.args.leaf c.args.expr.now _ _ _ c.get-in-Choice.result.now c.get-in-Choice-2.result.now _ _ c.in-Choice.is c.get-in-Choice.ensures c.get-in-Choice-2.ensures c.in_ok-left-in-Choice.ensures c.in_ok-right-in-Choice.ensures) at c.choice.ensures
