@@ -1,0 +1,5 @@
+pub mod Walks
+pub mod Unified
+pub mod Equations
+pub mod Comparisons
+pub mod Turns
