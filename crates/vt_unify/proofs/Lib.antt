@@ -6,3 +6,6 @@ pub mod Holding
 pub mod Comparing
 pub mod Turning
 pub mod Measures
+pub mod Binding
+pub mod Unifying
+pub mod Resolving

@@ -1,5 +1,6 @@
 pub mod Walks
 pub mod Unified
-pub mod Equations
 pub mod Comparisons
+pub mod Equations
 pub mod Turns
+pub mod Pairs

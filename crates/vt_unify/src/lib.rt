@@ -3,10 +3,10 @@
 
 mod answers;
 mod compare;
-mod equation;
 mod half;
 mod life;
 mod next_binding;
+mod pairs;
 mod reaches;
 mod replace;
 mod root;

@@ -1,35 +1,38 @@
-//! Equations taken apart until a cell has to be bound.
-ghost use Rattle.std.specs.Prelude.{◌≡◌, ◌++◌, OnOk, IfOk};
+//! Pairs taken apart until a cell has to be bound.
+ghost use Rattle.std.specs.Prelude.{◌≡◌, IfOk, IfSome};
 ghost use Rattle.std.specs.List.{All};
-ghost use Rattle.std.specs.Option.{option_to_list};
+ghost use Rattle.std.specs.Option.{option_map};
 ghost use Rattle.vt_unify.specs.Equations.{IsPosed};
 ghost use Rattle.vt_unify.specs.Turns.{IsTurn, IsLifeOf, IsWorked};
+ghost use Rattle.vt_unify.specs.Pairs.{IsKnown, AreKnown, equation_of, equations_in, region_of};
 ghost use Rattle.vt_unify.specs.declared.life.Life.TheVariants.{Alive};
 
 use crate::compare::{Comparison, compare};
-use crate::equation::Equation;
 use crate::life::{Life, life_of};
+use crate::pairs::{Pair, Pairs};
 use crate::replace::{push_halves, push_parts};
-use smallvec::SmallVec;
 use std::alloc::AllocError;
-use vt_dec::NodeId;
+use vt_dec::{Context, NodeId};
 use vt_store::{Pattern, Store};
 
-/// Takes equations off the list, and kills the decisions at which one has no solution, until there is
-/// one whose left cell is to be bound to its right one.
+/// Takes pairs off the list, and kills the decisions at which one cannot be equal, until there is one
+/// whose left cell is to be bound to its right one.
 pub(crate) fn next_binding<const N: usize>(
     store: &Store<N>,
     pattern: &mut Pattern<N>,
-    pending: &mut SmallVec<Equation<N>, 2>,
+    whole: &Context<N>,
+    pairs: &mut Pairs<N>,
     node: NodeId,
-) -> Result<Option<Equation<N>>, AllocError>
-    requires posed { All (IsPosed N store.now) pending.old.items }
+) -> Result<Option<Pair>, AllocError>
+    requires known { AreKnown pairs.old }
+    requires posed { All (IsPosed N store.now) (equations_in whole.now pairs.old) }
     requires space { pattern.old.space ≡ store.now.space }
-    ensures { IfOk result (IsWorked N node store.now pattern.old pattern.new pending.old.items pending.new.items) }
+    ensures known { IfOk result (λ found. AreKnown pairs.new × IfSome found (IsKnown pairs.new.narrowed.items)) }
+    ensures worked { IfOk result (λ found. IsWorked N node store.now pattern.old pattern.new (equations_in whole.now pairs.old) (equations_in whole.now pairs.new) (option_map (equation_of whole.now pairs.new.narrowed.items) found)) }
 {
     let _space = store.space();
-    while let Some(equation) = pending.pop() {
-        let found = turn(store, pattern, pending, &equation, node)?;
+    while let Some(pair) = pairs.pop() {
+        let found = turn(store, pattern, whole, pairs, &pair, node)?;
         if found.is_some() {
             return Ok(found);
         }
@@ -37,54 +40,58 @@ pub(crate) fn next_binding<const N: usize>(
     Ok(None)
 }
 
-/// One equation that was taken off the list.
+/// One pair that was taken off the list.
 fn turn<const N: usize>(
     store: &Store<N>,
     pattern: &mut Pattern<N>,
-    pending: &mut SmallVec<Equation<N>, 2>,
-    equation: &Equation<N>,
+    whole: &Context<N>,
+    pairs: &mut Pairs<N>,
+    pair: &Pair,
     node: NodeId,
-) -> Result<Option<Equation<N>>, AllocError>
-    requires posed { IsPosed N store.now equation.now }
+) -> Result<Option<Pair>, AllocError>
+    requires known { AreKnown pairs.old }
+    requires pair_known { IsKnown pairs.old.narrowed.items pair.now }
+    requires posed { IsPosed N store.now (equation_of whole.now pairs.old.narrowed.items pair.now) }
     requires space { pattern.old.space ≡ store.now.space }
-    ensures { IfOk result (IsTurn N node store.now pattern.old pattern.new equation.now pending.old.items pending.new.items) }
+    ensures known { IfOk result (λ found. AreKnown pairs.new × IfSome found (IsKnown pairs.new.narrowed.items)) }
+    ensures turn { IfOk result (λ found. IsTurn N node store.now pattern.old pattern.new (equation_of whole.now pairs.old.narrowed.items pair.now) (equations_in whole.now pairs.old) (equations_in whole.now pairs.new) (option_map (equation_of whole.now pairs.new.narrowed.items) found)) }
 {
-    match life_of(pattern, &equation.within) {
+    match life_of(pattern, pairs.context(whole, pair)) {
         Life::Split(dim) => {
-            push_halves(pending, equation, dim)?;
+            push_halves(pairs, whole, pair, dim)?;
             Ok(None)
         }
         Life::Dead => Ok(None),
-        Life::Alive => turn_alive(store, pattern, pending, equation, node),
+        Life::Alive => turn_alive(store, pattern, whole, pairs, pair, node),
     }
 }
 
-/// `turn` where all decisions of the equation are alive.
+/// `turn` where all decisions of the pair are alive.
 fn turn_alive<const N: usize>(
     store: &Store<N>,
     pattern: &mut Pattern<N>,
-    pending: &mut SmallVec<Equation<N>, 2>,
-    equation: &Equation<N>,
+    whole: &Context<N>,
+    pairs: &mut Pairs<N>,
+    pair: &Pair,
     node: NodeId,
-) -> Result<Option<Equation<N>>, AllocError>
-    requires posed { IsPosed N store.now equation.now }
+) -> Result<Option<Pair>, AllocError>
+    requires known { AreKnown pairs.old }
+    requires pair_known { IsKnown pairs.old.narrowed.items pair.now }
+    requires posed { IsPosed N store.now (equation_of whole.now pairs.old.narrowed.items pair.now) }
     requires space { pattern.old.space ≡ store.now.space }
-    requires alive { IsLifeOf N pattern.old equation.now.within Alive }
-    ensures { IfOk result (IsTurn N node store.now pattern.old pattern.new equation.now pending.old.items pending.new.items) }
+    requires alive { IsLifeOf N pattern.old (region_of whole.now pairs.old.narrowed.items pair.now.context) Alive }
+    ensures known { IfOk result (λ found. AreKnown pairs.new × IfSome found (IsKnown pairs.new.narrowed.items)) }
+    ensures turn { IfOk result (λ found. IsTurn N node store.now pattern.old pattern.new (equation_of whole.now pairs.old.narrowed.items pair.now) (equations_in whole.now pairs.old) (equations_in whole.now pairs.new) (option_map (equation_of whole.now pairs.new.narrowed.items) found)) }
 {
     let _space = store.space();
-    let Equation {
-        within,
-        left,
-        right,
-    } = equation;
-    let found = match compare(store, within, *left, *right) {
+    let within = pairs.context(whole, pair);
+    let found = match compare(store, within, pair.left, pair.right) {
         Ok(found) => found,
         Err(error) => return Err(error),
     };
     match found {
         Comparison::Split(dim) => {
-            push_halves(pending, equation, dim)?;
+            push_halves(pairs, whole, pair, dim)?;
             Ok(None)
         }
         Comparison::Equal => Ok(None),
@@ -92,13 +99,13 @@ fn turn_alive<const N: usize>(
             pattern.mask(within, node)?;
             Ok(None)
         }
-        Comparison::Open(left, right) => Ok(Some(Equation {
+        Comparison::Open(left, right) => Ok(Some(Pair {
             left,
             right,
-            ..*equation
+            ..*pair
         })),
         Comparison::Parts(lefts, rights) => {
-            push_parts(pending, equation, lefts, rights)?;
+            push_parts(pairs, pair.context, lefts, rights)?;
             Ok(None)
         }
     }

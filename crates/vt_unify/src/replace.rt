@@ -1,53 +1,49 @@
-//! What takes the place of an equation.
-ghost use Rattle.std.specs.Prelude.{◌≡◌, ◌∷◌, [], ◌++◌, OnOk};
-ghost use Rattle.vt_dec.specs.Decisions.{Narrows};
-ghost use Rattle.vt_dec.specs.declared.side.Side.TheVariants.{Left, Right};
-ghost use Rattle.vt_store.specs.Stores.{Cells};
-ghost use Rattle.vt_unify.specs.Equations.{equations_of};
+//! What takes the place of a pair.
+ghost use Rattle.std.specs.Prelude.{◌≡◌, ◌++◌, OnOk};
 ghost use Rattle.vt_unify.specs.Turns.{IsSplit};
+ghost use Rattle.vt_unify.specs.Pairs.{IsKnown, AreKnown, equation_of, equations_in, pairs_of, region_of};
 ghost use Rattle.vt_unify.specs.Walks.{CanSplit};
 
-use crate::equation::Equation;
 use crate::half::half;
-use smallvec::SmallVec;
+use crate::pairs::{Pair, Pairs};
 use std::alloc::AllocError;
-use vt_dec::{Dim, Side};
+use vt_dec::{Context, Dim, Side};
 use vt_store::CellId;
 
-/// Adds the equation on either side of the dimension.
+/// Adds the pair on either side of the dimension.
 pub(crate) fn push_halves<const N: usize>(
-    pending: &mut SmallVec<Equation<N>, 2>,
-    equation: &Equation<N>,
+    pairs: &mut Pairs<N>,
+    whole: &Context<N>,
+    pair: &Pair,
     dim: Dim,
 ) -> Result<(), AllocError>
-    requires { CanSplit N equation.now.within dim }
-    ensures { OnOk result (IsSplit N equation.now dim pending.old.items pending.new.items) }
+    requires known { IsKnown pairs.old.narrowed.items pair.now }
+    requires all_known { AreKnown pairs.old }
+    requires can_split { CanSplit N (region_of whole.now pairs.old.narrowed.items pair.now.context) dim }
+    ensures known { OnOk result (AreKnown pairs.new) }
+    ensures split { OnOk result (IsSplit N (equation_of whole.now pairs.old.narrowed.items pair.now) dim (equations_in whole.now pairs.old) (equations_in whole.now pairs.new)) }
 {
-    let right = half(&equation.within, dim, Side::Right);
-    let left = half(&equation.within, dim, Side::Left);
-    pending.push(Equation {
-        within: right,
-        ..*equation
-    })?;
-    pending.push(Equation {
-        within: left,
-        ..*equation
-    })?;
+    let within = pairs.context(whole, pair);
+    let right = half(within, dim, Side::Right);
+    let left = half(within, dim, Side::Left);
+    pairs.push_narrowed(pair, &right)?;
+    pairs.push_narrowed(pair, &left)?;
     Ok(())
 }
 
-/// Adds an equation for each cell of the first list and that of the second at its place.
+/// Adds a pair for each cell of the first list and that of the second at its place.
 pub(crate) fn push_parts<const N: usize>(
-    pending: &mut SmallVec<Equation<N>, 2>,
-    equation: &Equation<N>,
+    pairs: &mut Pairs<N>,
+    context: Option<usize>,
     lefts: &[CellId],
     rights: &[CellId],
 ) -> Result<(), AllocError>
-    ensures { OnOk result (pending.new.items ≡ pending.old.items ++ equations_of N equation.now.within lefts.now rights.now) }
+    ensures narrowed { pairs.new.narrowed.items ≡ pairs.old.narrowed.items }
+    ensures list { OnOk result (pairs.new.list.items ≡ pairs.old.list.items ++ pairs_of context lefts.now rights.now) }
 {
     for (left, right) in lefts.iter().zip(rights) {
-        pending.push(Equation {
-            within: equation.within,
+        pairs.push(&Pair {
+            context,
             left: *left,
             right: *right,
         })?;

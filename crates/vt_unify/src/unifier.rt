@@ -3,9 +3,8 @@ ghost use Rattle.std.specs.Prelude.{◌≡◌, ◌<◌, OnOk};
 ghost use Rattle.vt_store.specs.Stores.{cell_count};
 ghost use Rattle.vt_unify.specs.Unified.{IsUnified};
 
-use crate::equation::Equation;
 use crate::next_binding::next_binding;
-use smallvec::SmallVec;
+use crate::pairs::{Pair, Pairs};
 use std::alloc::AllocError;
 use vt_dec::{Context, NodeId};
 use vt_store::laws::most_general_solution;
@@ -30,14 +29,15 @@ pub fn unify<const N: usize>(
 {
     most_general_solution();
     let _space = store.space();
-    let mut pending = SmallVec::new(store.allocator());
-    pending.push(Equation {
-        within: *within,
+    let _sized = within.space();
+    let mut pairs = Pairs::new(store.allocator());
+    pairs.push(&Pair {
+        context: None,
         left: x,
         right: y,
     })?;
-    while let Some(binding) = next_binding(store, pattern, &mut pending, node)? {
-        store.bind(binding.left, &binding.within, binding.right)?;
+    while let Some(pair) = next_binding(store, pattern, within, &mut pairs, node)? {
+        store.bind(pair.left, pairs.context(within, &pair), pair.right)?;
     }
     let _space = store.space();
     Ok(())

@@ -15,10 +15,10 @@ compare_roots-requires g c =
     let root = IsRootOf-at g.row.N _ _ _ _ _ c.in-At.is c.in_ok-dim.ensures in
     let end = IsRootOf-at g.row.N _ _ _ _ _ c.in-At-2.is c.in_ok-dim-2.ensures in
     let itself =
-        root-itself g.row.N c.args.store.now c.args.within.now c.args.left c.args.right c.in-At.one c.in-At-2.other c.requires.left c.requires.right c.space-sized.ensures.sized c.requires.space c.space-space.ensures.acyclic root end
+    root-itself g.row.N c.args.store.now c.args.within.now c.args.left c.args.right c.in-At.one c.in-At-2.other c.requires.left c.requires.right c.space-sized.ensures.sized c.requires.space c.space-space.ensures.acyclic root end
     in
     let own =
-        end-itself g.row.N c.args.store.now c.args.within.now c.args.left c.args.right c.in-At.one c.in-At-2.other c.requires.left c.requires.right c.space-sized.ensures.sized c.requires.space c.space-space.ensures.acyclic root end
+    end-itself g.row.N c.args.store.now c.args.within.now c.args.left c.args.right c.in-At.one c.in-At-2.other c.requires.left c.requires.right c.space-sized.ensures.sized c.requires.space c.space-space.ensures.acyclic root end
     in
     (lit< tt, (search rules, (itself, (own, (search rules, c.requires.space)))))
 

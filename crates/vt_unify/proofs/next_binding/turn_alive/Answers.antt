@@ -1,30 +1,49 @@
 use Rattle.std.proofs.Common.{subst}
-use Rattle.vt_unify.specs.Comparisons.{IsComparison}
-use Rattle.vt_unify.proofs.Turning.{turn_split, turn_equal, turn_parts, turn_killed, turn_open}
+use Rattle.vt_store.specs.Patterns.{IsMasked}
+use Rattle.vt_unify.specs.declared.compare.Comparison.TheVariants as found
+use Rattle.vt_unify.specs.Pairs.{equation_of, equations_in, region_of}
+use Rattle.vt_unify.proofs.Resolving.{parts_more, parts_known}
+use Rattle.vt_unify.proofs.Turning.{turn_split, turn_equal, turn_parts, turn_killed, turn_open, compared_at}
 use Rattle.vt_unify.proofs.next_binding.turn_alive.Goals as goal
 
-pub returns-in_ok-push_halves-in-Split : goal.returns-in_ok-push_halves-in-Split
-returns-in_ok-push_halves-in-Split g c =
-    turn_split g.row.N c.args.node c.args.store.now c.args.pattern.now c.args.equation.now c.args.pending.now.items c.requires.posed c.in-Split.dim c.push_halves.new.pending.items
-    (subst (IsComparison g.row.N c.args.store.now c.args.equation.now.within c.args.equation.now.left c.args.equation.now.right) c.in-Split.is c.in-Ok.ensures) c.in_ok-push_halves-in-Split.ensures
+pub returns-in_ok-push_halves-in-Split-clause-turn : goal.returns-in_ok-push_halves-in-Split-clause-turn
+returns-in_ok-push_halves-in-Split-clause-turn g c =
+    turn_split g.row.N c.args.node c.args.store.now c.args.pattern.now (equation_of c.args.whole.now c.args.pairs.now.narrowed.items c.args.pair.now) (equations_in c.args.whole.now c.args.pairs.now) c.requires.posed
+    c.in-Split.dim (equations_in c.args.whole.now c.push_halves.new.pairs)
+    (compared_at g.row.N c.args.store.now c.context-within.result.now _ c.args.pair.now.left c.args.pair.now.right c.in-Ok.found (found.Split c.in-Split.dim) c.context-within.ensures c.in-Split.is c.in-Ok.ensures)
+    c.in_ok-push_halves-in-Split.ensures.split
 
-pub returns-in-Equal : goal.returns-in-Equal
-returns-in-Equal g c =
-    turn_equal g.row.N c.args.node c.args.store.now c.args.pattern.now c.args.equation.now c.args.pending.now.items c.requires.posed
-    (subst (IsComparison g.row.N c.args.store.now c.args.equation.now.within c.args.equation.now.left c.args.equation.now.right) c.in-Equal.is c.in-Ok.ensures)
+pub returns-in-Equal-clause-turn : goal.returns-in-Equal-clause-turn
+returns-in-Equal-clause-turn g c =
+    turn_equal g.row.N c.args.node c.args.store.now c.args.pattern.now (equation_of c.args.whole.now c.args.pairs.now.narrowed.items c.args.pair.now) (equations_in c.args.whole.now c.args.pairs.now) c.requires.posed
+    (compared_at g.row.N c.args.store.now c.context-within.result.now _ c.args.pair.now.left c.args.pair.now.right c.in-Ok.found found.Equal c.context-within.ensures c.in-Equal.is c.in-Ok.ensures)
 
-pub returns-in_ok-mask-in-Differ : goal.returns-in_ok-mask-in-Differ
-returns-in_ok-mask-in-Differ g c =
-    turn_killed g.row.N c.args.node c.args.store.now c.args.pattern.now c.args.equation.now c.args.pending.now.items c.requires.posed c.mask.new.self c.requires.space c.requires.alive
-    (subst (IsComparison g.row.N c.args.store.now c.args.equation.now.within c.args.equation.now.left c.args.equation.now.right) c.in-Differ.is c.in-Ok.ensures) c.in_ok-mask-in-Differ.ensures.ok
+pub returns-in_ok-mask-in-Differ-clause-turn : goal.returns-in_ok-mask-in-Differ-clause-turn
+returns-in_ok-mask-in-Differ-clause-turn g c =
+    turn_killed g.row.N c.args.node c.args.store.now c.args.pattern.now (equation_of c.args.whole.now c.args.pairs.now.narrowed.items c.args.pair.now) (equations_in c.args.whole.now c.args.pairs.now) c.requires.posed
+    c.mask.new.self c.requires.space c.requires.alive
+    (compared_at g.row.N c.args.store.now c.context-within.result.now _ c.args.pair.now.left c.args.pair.now.right c.in-Ok.found found.Differ c.context-within.ensures c.in-Differ.is c.in-Ok.ensures)
+    (subst (λ region. IsMasked g.row.N region c.args.node c.args.pattern.now c.mask.new.self) c.context-within.ensures c.in_ok-mask-in-Differ.ensures.ok)
 
-pub returns-in-Open : goal.returns-in-Open
-returns-in-Open g c =
-    turn_open g.row.N c.args.node c.args.store.now c.args.pattern.now c.args.equation.now c.args.pending.now.items c.requires.posed c.in-Open.left c.in-Open.right c.requires.alive
-    (subst (IsComparison g.row.N c.args.store.now c.args.equation.now.within c.args.equation.now.left c.args.equation.now.right) c.in-Open.is c.in-Ok.ensures)
+pub returns-in-Open-clause-turn : goal.returns-in-Open-clause-turn
+returns-in-Open-clause-turn g c =
+    turn_open g.row.N c.args.node c.args.store.now c.args.pattern.now (equation_of c.args.whole.now c.args.pairs.now.narrowed.items c.args.pair.now) (equations_in c.args.whole.now c.args.pairs.now) c.requires.posed
+    c.in-Open.left c.in-Open.right c.requires.alive
+    (compared_at g.row.N c.args.store.now c.context-within.result.now _ c.args.pair.now.left c.args.pair.now.right c.in-Ok.found (found.Open c.in-Open.left c.in-Open.right) c.context-within.ensures c.in-Open.is
+    c.in-Ok.ensures)
 
-pub returns-in_ok-push_parts-in-Parts : goal.returns-in_ok-push_parts-in-Parts
-returns-in_ok-push_parts-in-Parts g c =
-    turn_parts g.row.N c.args.node c.args.store.now c.args.pattern.now c.args.equation.now c.args.pending.now.items c.requires.posed c.in-Parts.lefts.now c.in-Parts.rights.now c.push_parts.new.pending.items
-    c.space-space.ensures.acyclic c.space-space.ensures.arities
-    (subst (IsComparison g.row.N c.args.store.now c.args.equation.now.within c.args.equation.now.left c.args.equation.now.right) c.in-Parts.is c.in-Ok.ensures) c.in_ok-push_parts-in-Parts.ensures
+pub returns-in_ok-push_parts-in-Parts-clause-known : goal.returns-in_ok-push_parts-in-Parts-clause-known
+returns-in_ok-push_parts-in-Parts-clause-known g c = (
+  parts_known c.args.pairs.now.narrowed.items c.push_parts.new.pairs.narrowed.items c.args.pair.now.context c.in-Parts.lefts.now c.in-Parts.rights.now c.args.pairs.now.list.items c.push_parts.new.pairs.list.items
+      c.in_ok-push_parts-in-Parts.ensures.narrowed c.in_ok-push_parts-in-Parts.ensures.list c.requires.pair_known c.requires.known,
+  tt,
+)
+
+pub returns-in_ok-push_parts-in-Parts-clause-turn : goal.returns-in_ok-push_parts-in-Parts-clause-turn
+returns-in_ok-push_parts-in-Parts-clause-turn g c =
+    turn_parts g.row.N c.args.node c.args.store.now c.args.pattern.now (equation_of c.args.whole.now c.args.pairs.now.narrowed.items c.args.pair.now) (equations_in c.args.whole.now c.args.pairs.now) c.requires.posed
+    c.in-Parts.lefts.now c.in-Parts.rights.now (equations_in c.args.whole.now c.push_parts.new.pairs) c.space-space.ensures.acyclic c.space-space.ensures.arities
+    (compared_at g.row.N c.args.store.now c.context-within.result.now _ c.args.pair.now.left c.args.pair.now.right c.in-Ok.found (found.Parts c.in-Parts.lefts c.in-Parts.rights) c.context-within.ensures c.in-Parts.is
+    c.in-Ok.ensures)
+    (parts_more c.args.whole.now c.args.pairs.now.narrowed.items c.push_parts.new.pairs.narrowed.items c.args.pair.now.context c.in-Parts.lefts.now c.in-Parts.rights.now c.args.pairs.now.list.items
+    c.push_parts.new.pairs.list.items c.in_ok-push_parts-in-Parts.ensures.narrowed c.in_ok-push_parts-in-Parts.ensures.list)

@@ -1,17 +1,16 @@
-use Rattle.std.proofs.Common.{◌≡◌, ◌⊎◌, ℕ, List, [], ◌∷◌, ◌++◌, refl, ap, sym, subst, ◌∙◌, inl, inr}
+use Rattle.std.proofs.Common.{◌≡◌, ◌⊎◌, ℕ, List, [], ◌∷◌, ◌++◌, Option, refl, ap, sym, ◌∙◌, inl, inr}
 use Rattle.std.proofs.lemmas.Slice.Zip.{either_empty_from_Zip}
-use Rattle.vt_dec.specs.Decisions.{Region}
-use Rattle.vt_unify.specs.Equations.{equations_of}
+use Rattle.vt_unify.specs.Pairs.{pairs_of}
 use Rattle.vt_unify.proofs.Holding.{append-none}
 use Rattle.vt_unify.proofs.replace.push_parts.Goals as goal
 
--- no equation is left to be made where one of the lists is at its end
-none_left : (N : ℕ) (within : Region) (lefts rights : List ℕ) → (lefts ≡ []) ⊎ (rights ≡ []) → equations_of N within lefts rights ≡ []
-none_left N within lefts rights (inl e) = ap (λ (cells : List ℕ). equations_of N within cells rights) e
-none_left N within [] rights (inr e) = refl
-none_left N within (left ∷ lefts) rights (inr e) = ap (equations_of N within (left ∷ lefts)) e
+-- no pair is left to be made where one of the lists is at its end
+none_left : (context : Option ℕ) (lefts rights : List ℕ) → (lefts ≡ []) ⊎ (rights ≡ []) → pairs_of context lefts rights ≡ []
+none_left context lefts rights (inl e) = ap (λ (cells : List ℕ). pairs_of context cells rights) e
+none_left context [] rights (inr e) = refl
+none_left context (left ∷ lefts) rights (inr e) = ap (pairs_of context (left ∷ lefts)) e
 
-pub returns : goal.returns
-returns g c =
-    let none = none_left g.row.N c.args.equation.now.within _ _ (either_empty_from_Zip c.loop-left.left-iterator c.next.new.self c.next.result c.in-None.is c.next.ensures.steps) in
-    sym (append-none c.loop-left.pending.items) ∙ ap (λ rest. c.loop-left.pending.items ++ rest) (sym none) ∙ c.loop-left.invariant
+pub returns-clause-list : goal.returns-clause-list
+returns-clause-list g c =
+    let none = none_left c.args.context _ _ (either_empty_from_Zip c.loop-left.left-iterator c.next.new.self c.next.result c.in-None.is c.next.ensures.steps) in
+    sym (append-none c.loop-left.pairs.list.items) ∙ ap (λ rest. c.loop-left.pairs.list.items ++ rest) (sym none) ∙ c.loop-left.invariant.list
