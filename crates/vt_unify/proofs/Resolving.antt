@@ -107,3 +107,14 @@ module _ (whole : Region) (narrowed later : List Region) (pairs rest : List Pair
 
 pub none_taken : (whole : Region) (narrowed later : List Region) (pairs rest : List Pair) → later ≡ narrowed → pairs ≡ rest ++ [] → equations_of_pairs whole narrowed pairs ≡ equations_of_pairs whole later rest
 none_taken whole narrowed later pairs rest kept taken = λ i. equations_of_pairs whole (sym kept i) ((taken ∙ append-none rest) i)
+
+-- a first pair in the whole context
+module _ (whole : Region) (narrowed : List Region) (before pairs : List Pair) (left right : ℕ) (empty : before ≡ []) (added : pairs ≡ before ++ record { context = None; left = left; right = right } ∷ []) where
+  one_pair : pairs ≡ record { context = None; left = left; right = right } ∷ []
+  one_pair = added ∙ ap (λ (list : List Pair). list ++ record { context = None; left = left; right = right } ∷ []) empty
+
+  pub first_equation : equations_of_pairs whole narrowed pairs ≡ record { within = whole; left = left; right = right } ∷ []
+  first_equation = ap (equations_of_pairs whole narrowed) one_pair
+
+  pub first_known : All (IsKnown narrowed) pairs
+  first_known = subst (All (IsKnown narrowed)) (sym one_pair) (All-cons (IsKnown narrowed) (record { context = None; left = left; right = right }) [] tt (All-nil (IsKnown narrowed)))

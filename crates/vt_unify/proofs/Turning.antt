@@ -184,3 +184,15 @@ worked_out N node store first now start before rest same none space so_far all i
       space = space;
       bindable = none;
     }
+
+pub never_some : {X : Type 0} (found : Option X) → ((x : X) → found ≡ Some x → ⊥) → found ≡ None
+never_some None never = refl
+never_some (Some x) never = absurd (never x refl)
+
+-- the equation that is to be bound
+module _ (N node : ℕ) (store : Cells) (first after : FateMap) (start rest : List Equation) (binding : Equation) (worked : IsWorked N node store first after start rest (Some binding)) where
+  pub binding_posed : IsPosed N store binding
+  binding_posed = All-head (IsPosed N store) binding [] (All-parts (IsPosed N store) rest (binding ∷ []) worked.posed).1
+
+pub all_worked : (N node : ℕ) (store : Cells) (first after : FateMap) (start rest : List Equation) → IsWorked N node store first after start rest None → rest ++ [] ≡ []
+all_worked N node store first after start rest worked = append-none rest ∙ worked.bindable
