@@ -1,0 +1,3 @@
+pub mod WalkCounts
+pub mod WalkSamples
+pub mod WalkNamed

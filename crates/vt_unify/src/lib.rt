@@ -1,0 +1,10 @@
+//! Two cells made equal at each decision of a context.
+#![tactic(auto)]
+
+mod answers;
+mod half;
+mod named;
+mod reaches;
+mod root;
+mod samples;
+mod sole;
