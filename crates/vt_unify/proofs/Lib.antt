@@ -1,3 +1,5 @@
 pub mod WalkCounts
 pub mod WalkSamples
 pub mod WalkNamed
+pub mod WalkSets
+pub mod WalkSearches

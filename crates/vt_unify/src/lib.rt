@@ -2,9 +2,11 @@
 #![tactic(auto)]
 
 mod answers;
+mod cell_set;
 mod half;
 mod named;
 mod reaches;
 mod root;
 mod samples;
+mod search;
 mod sole;
