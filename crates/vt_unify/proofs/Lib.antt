@@ -3,3 +3,4 @@ pub mod WalkSamples
 pub mod WalkNamed
 pub mod WalkSets
 pub mod WalkSearches
+pub mod WalkReaches

@@ -33,20 +33,6 @@ Grows-one split old later cell grown added small = record {
     last : Contains later.pending.items (visit cell split)
     last = subst (λ all. Contains all (visit cell split)) (sym grown) (Contains-push old.pending.items (visit cell split))
 
-pub Grows-none : (split : Option ℕ) (old : Search) → Grows [] split old old
-Grows-none split old = record {
-  seen = λ cell. ((λ h. inl h), by cell);
-  fresh = λ cell h. inl h;
-  kept = λ own h. h;
-  only = λ own h. inl h;
-  balance = omega arith;
-  few = λ h. h;
-}
-  where
-    by : (cell : ℕ) → Contains old.seen cell ⊎ Contains [] cell → Contains old.seen cell
-    by cell (inl h) = h
-    by cell (inr none) = absurd (omega (arith, none.1))
-
 pub Grows-then : (some others : List ℕ) (split : Option ℕ) (old now later : Search) → Grows some split old now → Grows others split now later → Grows (some ++ others) split old later
 Grows-then some others split old now later first second = record {
   seen = λ own. ((λ g. to own ((second.seen own).0 g)), back own);

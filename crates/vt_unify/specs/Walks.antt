@@ -1,4 +1,4 @@
-use Rattle.std.specs.Prelude.{◌≡◌, ◌↔◌, ℕ, ◌*◌, ◌<◌, List, [], ◌∷◌, None}
+use Rattle.std.specs.Prelude.{◌≡◌, ◌↔◌, ℕ, ◌*◌, ◌<◌, List, [], ◌∷◌, Option, Some, None}
 use Rattle.std.specs.List.{All, Contains}
 use Rattle.vt_dec.specs.declared.side.Side.{Side}
 use Rattle.vt_dec.specs.Decisions.{Region, Admits, IsSideOf}
@@ -41,6 +41,11 @@ abbrev pub IsReachOf : ℕ → Cells → Region → ℕ → ℕ → Reach → Ty
 IsReachOf N store region outer inner (reach.Split dim) = CanSplit N region dim
 IsReachOf N store region outer inner reach.Yes = (decision : List Side) → Admits region decision → Reaches (ends_at store decision) outer inner
 IsReachOf N store region outer inner reach.Never = (decision : List Side) → Admits region decision → Reaches (ends_at store decision) outer inner → ⊥
+
+-- the answer where a cell is reached by a way that differs by a dimension or by none
+abbrev pub reach_by : Option ℕ → Reach
+reach_by None = reach.Yes
+reach_by (Some dim) = reach.Split dim
 
 -- decisions of a context at which a cell has every end that it has there
 pub record AreSamples (store : Cells) (region : Region) (cell : ℕ) (samples : List (List Side)) : Type 0 where

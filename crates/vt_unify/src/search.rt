@@ -1,5 +1,5 @@
 //! What a search through cells has seen, and what it has still to look at.
-ghost use Rattle.std.specs.Prelude.{[], ◌∷◌, OnOk};
+ghost use Rattle.std.specs.Prelude.{◌≡◌, [], ◌∷◌, OnOk};
 ghost use Rattle.vt_unify.specs.Searches.{Grows};
 
 use crate::cell_set::CellSet;
@@ -23,7 +23,10 @@ pub(crate) struct Search {
 }
 
 impl Search {
-    pub(crate) fn new(alloc: Global) -> Search {
+    pub(crate) fn new(alloc: Global) -> Search
+        ensures pending { result.pending.items ≡ [] }
+        ensures seen { result.seen ≡ [] }
+    {
         Search {
             pending: Vec::new(alloc),
             seen: CellSet::new(alloc),
