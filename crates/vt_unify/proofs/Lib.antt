@@ -4,3 +4,4 @@ pub mod WalkNamed
 pub mod WalkSets
 pub mod WalkSearches
 pub mod WalkReaches
+pub mod WalkRoots
