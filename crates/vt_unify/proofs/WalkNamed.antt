@@ -7,7 +7,8 @@ use Rattle.vt_dec.specs.Decisions.{Region, Admits}
 use Rattle.vt_store.specs.Ends.{CellEnd, Free, Same, Made, NamesCell}
 use Rattle.vt_store.specs.Stores.{Cells, ends_at}
 use Rattle.vt_store.specs.Writes.{IsOf}
-use Rattle.vt_unify.specs.Walks.{AreSamples, AreNamed, AreLinked, cells_of}
+use Rattle.vt_unify.specs.Samplings.{AreSamples}
+use Rattle.vt_unify.specs.Walks.{AreNamed, AreLinked, cells_of}
 use Rattle.vt_unify.proofs.WalkSamples.{IsOf-admitted}
 
 -- What the samples name is what is named.

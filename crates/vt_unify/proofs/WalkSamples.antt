@@ -4,10 +4,10 @@ use Rattle.std.proofs.lemmas.List.Elements.{All-nil, All-push, All-pop, All-cont
 use Rattle.vt_dec.specs.declared.side.Side.{Side}
 use Rattle.vt_dec.specs.declared.side.Side.TheVariants.{Left, Right}
 use Rattle.vt_dec.specs.declared.side.Space.{Space}
-use Rattle.vt_dec.specs.Decisions.{Region, Agrees, Admits, Takes, IsSideOf, IsLeast, Narrows}
+use Rattle.vt_dec.specs.Decisions.{Region, Agrees, Admits, Takes, Narrows}
 use Rattle.vt_store.specs.Stores.{Cells, ends_at, IsOneEnd}
 use Rattle.vt_store.specs.Writes.{IsOf}
-use Rattle.vt_unify.specs.Walks.{AreSamples}
+use Rattle.vt_unify.specs.Samplings.{AreSamples, IsTurn}
 use Rattle.vt_unify.proofs.WalkCounts.{either_side, admitted-positive, admitted-halves, work, work-done, work-split}
 
 -- Parts of a context that are still to be looked at, and the decisions that are found.
@@ -97,38 +97,40 @@ module _ (store : Cells) (region : Region) (cell : ℕ) where
           | inr same ↦ let h = subst (λ own. Admits own d) (sym same) way.2 in inr (found_in d h (either_side d dim (low d h)))
         ]
 
--- The two steps, with the work that is left after each.
+-- A part is taken off the list and looked at.
 module _ (N : ℕ) (store : Cells) (region : Region) (cell : ℕ) (sized : length region.sides ≡ 64 * N)
     (before after : List Region) (part : Region) (found : List (List Side)) (is : before ≡ after ++ part ∷ []) (now : Sampling store region cell before found) where
   opened : Sampling store region cell (after ++ part ∷ []) found
   opened = subst (λ own. Sampling store region cell own found) is now
 
-  pub long : (d : List Side) → Admits part d → length d ≡ 64 * N
+  long : (d : List Side) → Admits part d → length d ≡ 64 * N
   long d h = Agrees-length region.sides d ((here store region cell after part found opened).inside d h).agrees ∙ sized
 
   -- the part is one of the context's space
   pub same_space : part.space ≡ region.space
   same_space = (here store region cell after part found opened).space
 
-  pub leaf : (least : List Side) (later : List (List Side)) → later ≡ found ++ least ∷ [] → IsOneEnd store cell part → IsLeast part least
-      → Sampling store region cell after later × (work (64 * N) after < work (64 * N) before)
-  leaf least later grown one_end is_least = (
-    subst (λ own. Sampling store region cell after own) (sym grown) (Sampling-leaf store region cell after part found opened least one_end is_least.admitted),
-    subst (λ own. work (64 * N) after < work (64 * N) own) (sym is)
-        (work-done (64 * N) after part (admitted-positive (64 * N) part least (long least is_least.admitted) is_least.admitted)),
-  )
+  module _ (later : List Region) (all : List (List Side)) where
+    pub Sampling-turn : IsTurn N store cell part after later found all → Sampling store region cell later all
+    Sampling-turn (inl t) =
+        subst (λ own. Sampling store region cell own all) (sym t.kept)
+            (subst (λ own. Sampling store region cell after own) (sym t.found) (Sampling-leaf store region cell after part found opened t.least t.one_end t.is_least.admitted))
+    Sampling-turn (inr t) =
+        subst (λ own. Sampling store region cell own all) (sym t.put)
+            (subst (λ own. Sampling store region cell ((after ++ t.right ∷ []) ++ t.left ∷ []) own) (sym t.kept)
+                (Sampling-split store region cell after part found opened t.dim t.left t.right (λ d h. omega (arith, long d h, t.can.0)) t.to_left t.to_right))
 
-  pub split : (dim : ℕ) (left right : Region) (middle later : List Region) → middle ≡ after ++ right ∷ [] → later ≡ middle ++ left ∷ []
-      → (dim < 64 * N) × IsSideOf part dim None → Narrows part dim Left left → Narrows part dim Right right
-      → Sampling store region cell later found × (work (64 * N) later < work (64 * N) before)
-  split dim left right middle later first second either to_left to_right =
-      let grown : later ≡ (after ++ right ∷ []) ++ left ∷ [] = second ∙ ap (λ own. own ++ left ∷ []) first in
-      let some_left = admitted-positive (64 * N) left either.1.0.0 (long either.1.0.0 either.1.0.1) ((to_left.exactly either.1.0.0).1 (either.1.0.1, either.1.0.2)) in
-      let some_right = admitted-positive (64 * N) right either.1.1.0 (long either.1.1.0 either.1.1.1) ((to_right.exactly either.1.1.0).1 (either.1.1.1, either.1.1.2)) in
-      let both = admitted-halves (64 * N) dim part left right either.0 to_left to_right in (
-        subst (λ own. Sampling store region cell own found) (sym grown)
-            (Sampling-split store region cell after part found opened dim left right (λ d h. omega (arith, long d h, either.0)) to_left to_right),
-        subst (λ own. work (64 * N) own < work (64 * N) before) (sym grown)
-            (subst (λ own. work (64 * N) ((after ++ right ∷ []) ++ left ∷ []) < work (64 * N) own) (sym is)
-                (work-split (64 * N) after part left right some_left some_right both)),
-      )
+    pub work-turn : IsTurn N store cell part after later found all → work (64 * N) later < work (64 * N) before
+    work-turn (inl t) =
+        subst (λ own. work (64 * N) own < work (64 * N) before) (sym t.kept)
+            (subst (λ own. work (64 * N) after < work (64 * N) own) (sym is)
+                (work-done (64 * N) after part (admitted-positive (64 * N) part t.least (long t.least t.is_least.admitted) t.is_least.admitted)))
+    work-turn (inr t) =
+        let one = t.can.1.0 in
+        let other = t.can.1.1 in
+        let some_left = admitted-positive (64 * N) t.left one.0 (long one.0 one.1) ((t.to_left.exactly one.0).1 (one.1, one.2)) in
+        let some_right = admitted-positive (64 * N) t.right other.0 (long other.0 other.1) ((t.to_right.exactly other.0).1 (other.1, other.2)) in
+        let both = admitted-halves (64 * N) t.dim part t.left t.right t.can.0 t.to_left t.to_right in
+        subst (λ own. work (64 * N) own < work (64 * N) before) (sym t.put)
+            (subst (λ own. work (64 * N) ((after ++ t.right ∷ []) ++ t.left ∷ []) < work (64 * N) own) (sym is)
+                (work-split (64 * N) after part t.left t.right some_left some_right both))

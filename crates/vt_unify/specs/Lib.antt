@@ -1,3 +1,4 @@
 pub mod Walks
+pub mod Samplings
 pub mod CellSets
 pub mod Searches

@@ -1,5 +1,5 @@
 use Rattle.std.specs.Prelude.{◌≡◌, ◌↔◌, ℕ, ◌*◌, ◌<◌, List, [], ◌∷◌, Option, Some, None}
-use Rattle.std.specs.List.{All, Contains}
+use Rattle.std.specs.List.{Contains}
 use Rattle.vt_dec.specs.declared.side.Side.{Side}
 use Rattle.vt_dec.specs.Decisions.{Region, Admits, IsSideOf}
 use Rattle.vt_store.specs.Ends.{CellEnd, Free, Same, Made, NamesCell, Reaches}
@@ -46,11 +46,6 @@ IsReachOf N store region outer inner reach.Never = (decision : List Side) → Ad
 abbrev pub reach_by : Option ℕ → Reach
 reach_by None = reach.Yes
 reach_by (Some dim) = reach.Split dim
-
--- decisions of a context at which a cell has every end that it has there
-pub record AreSamples (store : Cells) (region : Region) (cell : ℕ) (samples : List (List Side)) : Type 0 where
-  pub admitted : All (Admits region) samples
-  pub every : (decision : List Side) → Admits region decision → (sample : List Side) × Contains samples sample × (ends_at store sample cell ≡ ends_at store decision cell)
 
 -- the cells that an end names
 abbrev pub cells_of : CellEnd → List ℕ

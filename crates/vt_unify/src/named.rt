@@ -4,7 +4,7 @@ ghost use Rattle.vt_store.specs.Stores.{cell_count};
 ghost use Rattle.vt_store.specs.Views.{seen};
 ghost use Rattle.vt_unify.specs.Walks.{AreNamed, AreLinked, cells_of};
 
-use crate::samples::samples;
+use crate::samples::{few_samples, samples};
 use std::alloc::AllocError;
 use vt_dec::Context;
 use vt_store::{CellId, End, Store};
@@ -42,7 +42,8 @@ fn push_cells(cells: &mut Vec<CellId>, end: End<'_>) -> Result<(), AllocError>
     }
 }
 
-/// Each cell that the cell is linked to at some decision of the context, if it is a link at all of them.
+/// Each cell that the cell is linked to at some decision of the context, if it is a link at all of them,
+/// and in few parts of the context.
 pub(crate) fn linked<const N: usize>(
     store: &Store<N>,
     within: &Context<N>,
@@ -53,8 +54,10 @@ pub(crate) fn linked<const N: usize>(
     ensures { IfOk result (λ found. IfSome found (λ cells. AreLinked store.now within.now cell cells.items)) }
 {
     let _space = within.space();
+    let Some(found) = few_samples(store, within, cell)? else {
+        return Ok(None);
+    };
     let mut cells = Vec::new(store.allocator());
-    let found = samples(store, within, cell)?;
     for sample in &found {
         match store.end(cell, sample) {
             End::Link(next) => cells.push(next)?,
