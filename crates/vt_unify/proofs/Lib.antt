@@ -5,3 +5,4 @@ pub mod WalkSets
 pub mod WalkSearches
 pub mod WalkReaches
 pub mod WalkRoots
+pub mod WalkSoles

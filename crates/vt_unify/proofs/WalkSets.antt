@@ -13,7 +13,7 @@ use Rattle.vt_unify.specs.CellSets.{IsInserted}
 
 -- What an insertion into a set of numbers says of its members.
 
-apart : (x y : ℕ) → (x ≡ y → ⊥) → is_at (nat_cmp x) y ≡ false
+pub apart : (x y : ℕ) → (x ≡ y → ⊥) → is_at (nat_cmp x) y ≡ false
 apart x y differ = let other : x ≢ y = differ in grind (arith, nat_tests)
 
 module _ (s : BTreeSet ℕ) (q : ℕ) where

@@ -2,3 +2,4 @@ pub mod Walks
 pub mod Samplings
 pub mod CellSets
 pub mod Searches
+pub mod Soles
