@@ -1,5 +1,5 @@
-use Rattle.std.proofs.Common.{◌≡◌, ◌⊎◌, ◌↔◌, ℕ, zero, suc, ◌+◌, ◌*◌, ◌<◌, ◌≤◌, List, [], ◌∷◌, ◌++◌, length, take, get_or, refl, ap, sym, subst, ◌∙◌, inl, inr, arith}
-use Rattle.std.specs.List.{All, AllZip, Contains, flat_map}
+use Rattle.std.proofs.Common.{◌≡◌, ◌⊎◌, ℕ, zero, suc, ◌+◌, ◌*◌, ◌<◌, ◌≤◌, List, [], ◌∷◌, ◌++◌, length, take, get_or, refl, ap, sym, subst, ◌∙◌, inl, inr, arith}
+use Rattle.std.specs.List.{AllZip, Contains, flat_map}
 use Rattle.std.proofs.lemmas.List.{take_all, take_more}
 use Rattle.std.proofs.lemmas.List.Elements.{All-contains, Contains-get_or, Contains-append_left, Contains-append_right, Contains-append_cases}
 use Rattle.vt_dec.specs.declared.side.Side.{Side}
@@ -103,7 +103,7 @@ module _ (store : Cells) (region : Region) (cell : ℕ) (found : List (List Side
       → AllZip links_to (take k samples) cells → AllZip links_to (take (k + 1) samples) (cells ++ next ∷ [])
   linked-more k cells sample next within is link h =
       subst (λ own. AllZip links_to own (cells ++ next ∷ [])) (sym (take_more samples k sample within ∙ ap (λ own. take k samples ++ own ∷ []) (sym is)))
-          (related-push links_to (take k samples) cells sample next h (sym link))
+      (related-push links_to (take k samples) cells sample next h (sym link))
 
   pub AreLinked-all : (k : ℕ) (cells : List ℕ) → length samples ≤ k → AllZip (λ sample next. ends_at store sample cell ≡ Same next) (take k samples) cells → AreLinked store region cell cells
   AreLinked-all k cells past h = record { every = every; only = only }

@@ -1,4 +1,4 @@
-use Rattle.std.proofs.Common.{◌≡◌, ◌⊎◌, ℕ, zero, suc, ◌+◌, ◌-◌, ◌*◌, ◌<◌, ◌≤◌, List, [], ◌∷◌, ◌++◌, Option, Some, None, length, refl, ap, sym, subst, ◌∙◌, inl, inr, arith, length-append}
+use Rattle.std.proofs.Common.{◌≡◌, ◌⊎◌, ℕ, zero, suc, ◌+◌, ◌-◌, ◌*◌, ◌<◌, List, [], ◌∷◌, ◌++◌, Option, Some, None, length, refl, ap, sym, subst, ◌∙◌, inl, inr, arith, length-append}
 use Rattle.std.specs.List.{Contains}
 use Rattle.std.specs.Option.{IfSome, option_or}
 use Rattle.std.proofs.lemmas.List.Elements.{All-contains, Contains-get_or, Contains-push, Contains-push_cases, Contains-append_left}
@@ -144,7 +144,7 @@ module _ (N : ℕ) (store : Cells) (region : Region) (outer inner : ℕ) where
 
           pended : (own : ℕ) (at : Visit) → at.cell ≡ own → Contains before at → ((at : Visit) × Contains now.pending.items at × (at.cell ≡ own)) ⊎ IsDone store region inner now.seen own
           pended own at same among = elim (Contains-push_cases rest (visit cell split) at (subst (λ all. Contains all at) is among)) [
-            inl left ↦ inl (at, grows.kept at (subst (λ all. Contains all at) (sym rest_is) left), same)
+            | inl left ↦ inl (at, grows.kept at (subst (λ all. Contains all at) (sym rest_is) left), same)
             | inr this ↦ inr (subst (IsDone store region inner now.seen) (ap (λ v. v.cell) this ∙ same) cell_done)
           ]
 

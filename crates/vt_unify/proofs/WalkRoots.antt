@@ -1,6 +1,6 @@
 use Rattle.std.proofs.Common.{◌≡◌, ℕ, zero, suc, ◌*◌, ◌<◌, ◌≤◌, List, length, refl, ap, sym, subst, ◌∙◌, arith}
 use Rattle.vt_dec.specs.declared.side.Side.{Side}
-use Rattle.vt_dec.specs.Decisions.{Region, Admits, IsLeast}
+use Rattle.vt_dec.specs.Decisions.{Region, IsLeast}
 use Rattle.vt_store.specs.Ends.{CellEnd, Free, Same, Made, EachCell, EndsWithin, IsAcyclic}
 use Rattle.vt_store.specs.Stores.{Cells, ends_at, cell_count, IsOneEnd}
 use Rattle.vt_store.specs.Writes.{IsOf}

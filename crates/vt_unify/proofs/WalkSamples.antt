@@ -1,4 +1,4 @@
-use Rattle.std.proofs.Common.{◌≡◌, ◌⊎◌, ℕ, ◌*◌, ◌<◌, List, [], ◌∷◌, ◌++◌, Option, Some, None, length, refl, ap, sym, subst, ◌∙◌, inl, inr, arith}
+use Rattle.std.proofs.Common.{◌≡◌, ◌⊎◌, ℕ, ◌*◌, ◌<◌, List, [], ◌∷◌, ◌++◌, Option, Some, None, length, refl, sym, subst, ◌∙◌, inl, inr, arith}
 use Rattle.std.specs.List.{All, Contains}
 use Rattle.std.proofs.lemmas.List.Elements.{All-nil, All-push, All-pop, All-contains, Contains-push, Contains-push_cases, Contains-append_left}
 use Rattle.vt_dec.specs.declared.side.Side.{Side}
@@ -69,7 +69,7 @@ module _ (store : Cells) (region : Region) (cell : ℕ) where
             → ((sample : List Side) × Contains (found ++ least ∷ []) sample × (ends_at store sample cell ≡ ends_at store d cell)) ⊎ ((own : Region) × Contains parts own × Admits own d)
         by d (inl known) = inl (known.0, Contains-append_left found (least ∷ []) known.0 known.1, known.2)
         by d (inr way) = elim (Contains-push_cases parts part way.0 way.1) [
-          inl old ↦ inr (way.0, old, way.2)
+          | inl old ↦ inr (way.0, old, way.2)
           | inr same ↦ inl (least, Contains-push found least, one_end least d admits (subst (λ own. Admits own d) (sym same) way.2))
         ]
 
@@ -93,7 +93,7 @@ module _ (store : Cells) (region : Region) (cell : ℕ) where
             → ((sample : List Side) × Contains found sample × (ends_at store sample cell ≡ ends_at store d cell)) ⊎ ((own : Region) × Contains ((parts ++ right ∷ []) ++ left ∷ []) own × Admits own d)
         by d (inl known) = inl known
         by d (inr way) = elim (Contains-push_cases parts part way.0 way.1) [
-          inl old ↦ inr (way.0, Contains-append_left (parts ++ right ∷ []) (left ∷ []) way.0 (Contains-append_left parts (right ∷ []) way.0 old), way.2)
+          | inl old ↦ inr (way.0, Contains-append_left (parts ++ right ∷ []) (left ∷ []) way.0 (Contains-append_left parts (right ∷ []) way.0 old), way.2)
           | inr same ↦ let h = subst (λ own. Admits own d) (sym same) way.2 in inr (found_in d h (either_side d dim (low d h)))
         ]
 
@@ -114,17 +114,17 @@ module _ (N : ℕ) (store : Cells) (region : Region) (cell : ℕ) (sized : lengt
     pub Sampling-turn : IsTurn N store cell part after later found all → Sampling store region cell later all
     Sampling-turn (inl t) =
         subst (λ own. Sampling store region cell own all) (sym t.kept)
-            (subst (λ own. Sampling store region cell after own) (sym t.found) (Sampling-leaf store region cell after part found opened t.least t.one_end t.is_least.admitted))
+        (subst (λ own. Sampling store region cell after own) (sym t.found) (Sampling-leaf store region cell after part found opened t.least t.one_end t.is_least.admitted))
     Sampling-turn (inr t) =
         subst (λ own. Sampling store region cell own all) (sym t.put)
-            (subst (λ own. Sampling store region cell ((after ++ t.right ∷ []) ++ t.left ∷ []) own) (sym t.kept)
-                (Sampling-split store region cell after part found opened t.dim t.left t.right (λ d h. omega (arith, long d h, t.can.0)) t.to_left t.to_right))
+        (subst (λ own. Sampling store region cell ((after ++ t.right ∷ []) ++ t.left ∷ []) own) (sym t.kept)
+        (Sampling-split store region cell after part found opened t.dim t.left t.right (λ d h. omega (arith, long d h, t.can.0)) t.to_left t.to_right))
 
     pub work-turn : IsTurn N store cell part after later found all → work (64 * N) later < work (64 * N) before
     work-turn (inl t) =
         subst (λ own. work (64 * N) own < work (64 * N) before) (sym t.kept)
-            (subst (λ own. work (64 * N) after < work (64 * N) own) (sym is)
-                (work-done (64 * N) after part (admitted-positive (64 * N) part t.least (long t.least t.is_least.admitted) t.is_least.admitted)))
+        (subst (λ own. work (64 * N) after < work (64 * N) own) (sym is)
+        (work-done (64 * N) after part (admitted-positive (64 * N) part t.least (long t.least t.is_least.admitted) t.is_least.admitted)))
     work-turn (inr t) =
         let one = t.can.1.0 in
         let other = t.can.1.1 in
@@ -132,5 +132,5 @@ module _ (N : ℕ) (store : Cells) (region : Region) (cell : ℕ) (sized : lengt
         let some_right = admitted-positive (64 * N) t.right other.0 (long other.0 other.1) ((t.to_right.exactly other.0).1 (other.1, other.2)) in
         let both = admitted-halves (64 * N) t.dim part t.left t.right t.can.0 t.to_left t.to_right in
         subst (λ own. work (64 * N) own < work (64 * N) before) (sym t.put)
-            (subst (λ own. work (64 * N) ((after ++ t.right ∷ []) ++ t.left ∷ []) < work (64 * N) own) (sym is)
-                (work-split (64 * N) after part t.left t.right some_left some_right both))
+        (subst (λ own. work (64 * N) ((after ++ t.right ∷ []) ++ t.left ∷ []) < work (64 * N) own) (sym is)
+        (work-split (64 * N) after part t.left t.right some_left some_right both))

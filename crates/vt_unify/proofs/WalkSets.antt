@@ -1,5 +1,5 @@
-use Rattle.std.proofs.Common.{◌≡◌, ◌≢◌, ◌↔◌, ◌⊎◌, ℕ, ◌+◌, Bool, true, false, not, cond, sym, subst, ◌∙◌, inl, inr, arith}
-use Rattle.std.specs.Bool.{IsTrue, OnFalse}
+use Rattle.std.proofs.Common.{◌≡◌, ◌≢◌, ◌⊎◌, ℕ, ◌+◌, Bool, true, false, not, cond, sym, subst, ◌∙◌, inl, inr, arith}
+use Rattle.std.specs.Bool.{OnFalse}
 use Rattle.std.specs.BTreeSet.{BTreeSet, contains, btree_set_len, IsUnchanged, Updates}
 use Rattle.std.specs.BTreeMap.{is_at}
 use Rattle.std.specs.List.{Contains}
@@ -34,7 +34,7 @@ IsInserted-set cell old new true is updates unchanged count = ((λ q. (by q (cas
     back : (q : ℕ) → Contains old.keys q ⊎ (cell ≡ q) → Contains new.keys q
     back q (inr same) = subst (Contains new.keys) same (is_member new cell updates.1)
     back q (inl h) = elim (cases_eq cell q) [
-      inl same ↦ subst (Contains new.keys) same (is_member new cell updates.1)
+      | inl same ↦ subst (Contains new.keys) same (is_member new cell updates.1)
       | inr differ ↦ is_member new q (updates.2 q (apart cell q differ) ∙ member old q h)
     ]
 IsInserted-set cell old new false is updates unchanged count = (is_member old cell (not-false (contains nat_cmp old cell) (sym is)), unchanged)

@@ -1,14 +1,14 @@
 use Rattle.std.proofs.Common.{◌≡◌, ◌⊎◌, ℕ, ◌*◌, ◌<◌, List, [], ◌∷◌, ◌++◌, Bool, Some, get_or, length, refl, ap, sym, subst, ◌∙◌, inl, inr}
 use Rattle.std.specs.BTreeMap.{BTreeMap, IsEmpty, Updates, is_at}
-use Rattle.std.specs.List.{All, Contains, filter}
+use Rattle.std.specs.List.{All, filter}
 use Rattle.std.specs.Map.{lookup}
 use Rattle.std.specs.Option.{unwrap_or}
 use Rattle.std.specs.Ordering.{nat_cmp}
 use Rattle.std.proofs.lemmas.Bool.{cases_eq}
 use Rattle.std.proofs.lemmas.List.Elements.{All-append, All-contains, All-filter, All-push, Contains-get_or}
 use Rattle.vt_dec.specs.declared.side.Side.{Side}
-use Rattle.vt_dec.specs.Decisions.{Region, Admits}
-use Rattle.vt_store.specs.Ends.{CellEnd, Same, NamesCell, IsAcyclic}
+use Rattle.vt_dec.specs.Decisions.{Region}
+use Rattle.vt_store.specs.Ends.{NamesCell, IsAcyclic}
 use Rattle.vt_store.specs.Stores.{Cells, ends_at, cell_count}
 use Rattle.vt_store.specs.Views.{Follows, arrived, onward}
 use Rattle.vt_store.specs.Writes.{IsOf}
@@ -52,4 +52,4 @@ pub All-put : (P : ℕ → Type 0) (pending middle later : List ℕ) (cell : ℕ
     → middle ≡ pending ++ cell ∷ [] → later ≡ middle ++ missing → All P later
 All-put P pending middle later cell next test missing all here below is first second =
     subst (All P) (sym (second ∙ ap (λ own. own ++ missing) first))
-        (All-append P (pending ++ cell ∷ []) missing (All-push P pending cell all here) (subst (All P) (sym is) (All-filter test P next below)))
+    (All-append P (pending ++ cell ∷ []) missing (All-push P pending cell all here) (subst (All P) (sym is) (All-filter test P next below)))

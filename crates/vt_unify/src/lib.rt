@@ -10,3 +10,5 @@ mod root;
 mod samples;
 mod search;
 mod sole;
+#[cfg(test)]
+mod walk_tests;

@@ -11,8 +11,8 @@ pub loop-sample-preserved : goal.loop-sample-preserved
 loop-sample-preserved g c =
     let known = rw c.in-Some.is at c.in_ok-found.ensures in
     rw c.in_ok-push-in-Link.ensures.items
-        (linked-more c.args.store.now c.args.within.now c.args.cell _ known _ c.deref-sample-items.ensures.value c.loop-sample.sample-index c.loop-sample.cells.items c.sample-item.result c.in-Link.next
-        c.loop-sample-test.true c.sample-item.is c.in-Link.ensures c.loop-sample.invariant)
+    (linked-more c.args.store.now c.args.within.now c.args.cell _ known _ c.deref-sample-items.ensures.value c.loop-sample.sample-index c.loop-sample.cells.items c.sample-item.result c.in-Link.next
+    c.loop-sample-test.true c.sample-item.is c.in-Link.ensures c.loop-sample.invariant)
 
 pub returns : goal.returns
 returns g c =

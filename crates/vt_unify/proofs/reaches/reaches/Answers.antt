@@ -1,4 +1,4 @@
-use Rattle.std.proofs.Common.{refl, lit<, rules, ap, subst, sym}
+use Rattle.std.proofs.Common.{refl, lit<, rules}
 use Rattle.vt_unify.proofs.WalkReaches.{Searching-first, Searching-never, Searching-more, Searching-fewer, reached-way, here}
 use Rattle.vt_unify.proofs.reaches.reaches.Goals as goal
 
@@ -8,8 +8,8 @@ cells-init g c = Searching-first g.row.N c.args.store.now c.args.within.now c.ar
 pub returns-then-eq : goal.returns-then-eq
 returns-then-eq g c =
     rw c.reached.ensures
-        (reached-way g.row.N c.args.store.now c.args.within.now c.args.outer c.args.inner _ c.pop.new.self.items _ c.in-Some.visit.cell c.in-Some.visit.split c.in-Some.ensures.items c.cells.invariant
-        (search rules))
+    (reached-way g.row.N c.args.store.now c.args.within.now c.args.outer c.args.inner _ c.pop.new.self.items _ c.in-Some.visit.cell c.in-Some.visit.split c.in-Some.ensures.items c.cells.invariant
+    (search rules))
 
 pub splits-requires : goal.splits-requires
 splits-requires g c =
