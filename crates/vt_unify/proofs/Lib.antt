@@ -9,3 +9,11 @@ pub mod Measures
 pub mod Binding
 pub mod Unifying
 pub mod Resolving
+pub mod WalkCounts
+pub mod WalkSamples
+pub mod WalkNamed
+pub mod WalkSets
+pub mod WalkSearches
+pub mod WalkReaches
+pub mod WalkRoots
+pub mod WalkSoles

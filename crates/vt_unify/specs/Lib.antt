@@ -4,3 +4,7 @@ pub mod Comparisons
 pub mod Equations
 pub mod Turns
 pub mod Pairs
+pub mod Samplings
+pub mod CellSets
+pub mod Searches
+pub mod Soles

@@ -1,8 +1,8 @@
-use Rattle.std.specs.Prelude.{◌≡◌, ℕ, ◌*◌, ◌<◌, List, None}
-use Rattle.std.specs.List.{All, Contains}
+use Rattle.std.specs.Prelude.{◌≡◌, ◌↔◌, ℕ, ◌*◌, ◌<◌, List, [], ◌∷◌, Option, Some, None}
+use Rattle.std.specs.List.{Contains}
 use Rattle.vt_dec.specs.declared.side.Side.{Side}
 use Rattle.vt_dec.specs.Decisions.{Region, Admits, IsSideOf}
-use Rattle.vt_store.specs.Ends.{CellEnd, Free, Same, Made, EachCell, NamesCell, Reaches}
+use Rattle.vt_store.specs.Ends.{CellEnd, Free, Same, Made, NamesCell, Reaches}
 use Rattle.vt_store.specs.Stores.{Cells, cell_count, ends_at, IsOneEnd}
 use Rattle.vt_store.specs.Views.{Follows}
 use Rattle.vt_unify.specs.declared.answers.Root.{Root}
@@ -42,17 +42,22 @@ IsReachOf N store region outer inner (reach.Split dim) = CanSplit N region dim
 IsReachOf N store region outer inner reach.Yes = (decision : List Side) → Admits region decision → Reaches (ends_at store decision) outer inner
 IsReachOf N store region outer inner reach.Never = (decision : List Side) → Admits region decision → Reaches (ends_at store decision) outer inner → ⊥
 
--- decisions of a context at which a cell has every end that it has there
-pub record AreSamples (store : Cells) (region : Region) (cell : ℕ) (samples : List (List Side)) : Type 0 where
-  pub admitted : All (Admits region) samples
-  pub every : (decision : List Side) → Admits region decision → (sample : List Side) × Contains samples sample × (ends_at store sample cell ≡ ends_at store decision cell)
+-- the answer where a cell is reached by a way that differs by a dimension or by none
+abbrev pub reach_by : Option ℕ → Reach
+reach_by None = reach.Yes
+reach_by (Some dim) = reach.Split dim
+
+-- the cells that an end names
+abbrev pub cells_of : CellEnd → List ℕ
+cells_of Free = []
+cells_of (Same cell) = cell ∷ []
+cells_of (Made head kids) = kids
 
 -- the cells that a cell's ends name at the decisions of a context
-pub record AreNamed (store : Cells) (region : Region) (cell : ℕ) (named : List ℕ) : Type 0 where
-  pub every : (decision : List Side) → Admits region decision → EachCell (Contains named) (ends_at store decision cell)
-  pub only : All (λ next. (decision : List Side) × Admits region decision × NamesCell (ends_at store decision cell) next) named
+abbrev pub AreNamed : Cells → Region → ℕ → List ℕ → Type 0
+AreNamed store region cell named = (next : ℕ) → Contains named next ↔ ((decision : List Side) × Admits region decision × NamesCell (ends_at store decision cell) next)
 
--- the cells that a cell is linked to at the decisions of a context
+-- at each decision of the context the cell is linked to another one, which is among these; each of them is one that it is linked to
 pub record AreLinked (store : Cells) (region : Region) (cell : ℕ) (linked : List ℕ) : Type 0 where
   pub every : (decision : List Side) → Admits region decision → (next : ℕ) × Contains linked next × (ends_at store decision cell ≡ Same next)
-  pub only : All (λ next. (decision : List Side) × Admits region decision × (ends_at store decision cell ≡ Same next)) linked
+  pub only : (next : ℕ) → Contains linked next → (decision : List Side) × Admits region decision × (ends_at store decision cell ≡ Same next)

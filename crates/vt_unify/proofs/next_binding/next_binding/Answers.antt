@@ -23,8 +23,8 @@ pub loop-pair-smaller : goal.loop-pair-smaller
 loop-pair-smaller g c =
     let taken = last_taken c.args.whole.now c.loop-pair.pairs.narrowed.items c.pop.new.self.narrowed.items c.loop-pair.pairs.list.items c.pop.new.self.list.items c.in-Some.pair c.in-Some.ensures.narrowed c.in-Some.ensures.list in
     let turn =
-        subst (λ found. IsTurn g.row.N c.args.node c.args.store.now c.loop-pair.pattern c.turn.new.pattern (equation_of c.args.whole.now c.pop.new.self.narrowed.items c.in-Some.pair) (equations_in c.args.whole.now c.pop.new.self)
-        (equations_in c.args.whole.now c.turn.new.pairs) (option_map (equation_of c.args.whole.now c.turn.new.pairs.narrowed.items) found)) (no_option c.in_ok-found.found (sym c.is_some.ensures ∙ c.if-is_some.false)) c.in_ok-found.ensures.turn
+    subst (λ found. IsTurn g.row.N c.args.node c.args.store.now c.loop-pair.pattern c.turn.new.pattern (equation_of c.args.whole.now c.pop.new.self.narrowed.items c.in-Some.pair) (equations_in c.args.whole.now c.pop.new.self)
+    (equations_in c.args.whole.now c.turn.new.pairs) (option_map (equation_of c.args.whole.now c.turn.new.pairs.narrowed.items) found)) (no_option c.in_ok-found.found (sym c.is_some.ensures ∙ c.if-is_some.false)) c.in_ok-found.ensures.turn
     in
     falls_none g.row.N c.args.node c.args.store.now c.space-space.ensures.acyclic c.args.pattern.now c.loop-pair.pattern c.turn.new.pattern (equations_in c.args.whole.now c.args.pairs.now) (equations_in c.args.whole.now c.loop-pair.pairs) (equations_in c.args.whole.now c.pop.new.self) (equations_in c.args.whole.now c.turn.new.pairs) (equation_of c.args.whole.now c.pop.new.self.narrowed.items c.in-Some.pair) taken c.loop-pair.invariant.posed turn
 
@@ -32,8 +32,8 @@ pub loop-pair-preserved : goal.loop-pair-preserved
 loop-pair-preserved g c =
     let taken = last_taken c.args.whole.now c.loop-pair.pairs.narrowed.items c.pop.new.self.narrowed.items c.loop-pair.pairs.list.items c.pop.new.self.list.items c.in-Some.pair c.in-Some.ensures.narrowed c.in-Some.ensures.list in
     let turn =
-        subst (λ found. IsTurn g.row.N c.args.node c.args.store.now c.loop-pair.pattern c.turn.new.pattern (equation_of c.args.whole.now c.pop.new.self.narrowed.items c.in-Some.pair) (equations_in c.args.whole.now c.pop.new.self)
-        (equations_in c.args.whole.now c.turn.new.pairs) (option_map (equation_of c.args.whole.now c.turn.new.pairs.narrowed.items) found)) (no_option c.in_ok-found.found (sym c.is_some.ensures ∙ c.if-is_some.false)) c.in_ok-found.ensures.turn
+    subst (λ found. IsTurn g.row.N c.args.node c.args.store.now c.loop-pair.pattern c.turn.new.pattern (equation_of c.args.whole.now c.pop.new.self.narrowed.items c.in-Some.pair) (equations_in c.args.whole.now c.pop.new.self)
+    (equations_in c.args.whole.now c.turn.new.pairs) (option_map (equation_of c.args.whole.now c.turn.new.pairs.narrowed.items) found)) (no_option c.in_ok-found.found (sym c.is_some.ensures ∙ c.if-is_some.false)) c.in_ok-found.ensures.turn
     in
     let worked = worked_none g.row.N c.args.node c.args.store.now c.space-space.ensures.acyclic c.args.pattern.now c.loop-pair.pattern c.turn.new.pattern (equations_in c.args.whole.now c.args.pairs.now) (equations_in c.args.whole.now c.loop-pair.pairs) (equations_in c.args.whole.now c.pop.new.self) (equations_in c.args.whole.now c.turn.new.pairs) (equation_of c.args.whole.now c.pop.new.self.narrowed.items c.in-Some.pair) taken c.loop-pair.invariant.turned c.loop-pair.invariant.posed turn in
     record {

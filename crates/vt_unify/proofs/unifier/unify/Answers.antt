@@ -19,8 +19,8 @@ pub loop-pairs-init : goal.loop-pairs-init
 loop-pairs-init g c =
     let first = first_equation c.args.within.now c.push.new.self.narrowed.items c.new-pairs.result.list.items c.push.new.self.list.items c.args.x c.args.y c.new-pairs.ensures.list c.in_ok-push.ensures.list in
     let underway =
-        underway_first g.row.N c.args.node c.args.within.now c.args.x c.args.y c.args.store.now c.args.pattern.now (record { within = c.args.within.now; left = c.args.x; right = c.args.y })
-        (record { left = c.requires.x; right = c.requires.y; space = c.requires.space; sized = c.space-sized.ensures.sized; some = (least_of c.args.within.now.sides, Admits-least c.args.within.now c.space-sized.ensures.kept) }) refl refl refl
+    underway_first g.row.N c.args.node c.args.within.now c.args.x c.args.y c.args.store.now c.args.pattern.now (record { within = c.args.within.now; left = c.args.x; right = c.args.y })
+    (record { left = c.requires.x; right = c.requires.y; space = c.requires.space; sized = c.space-sized.ensures.sized; some = (least_of c.args.within.now.sides, Admits-least c.args.within.now c.space-sized.ensures.kept) }) refl refl refl
     in
     record {
       underway = subst (IsUnderway g.row.N c.args.node c.args.within.now c.args.x c.args.y c.args.store.now c.args.store.now c.args.pattern.now c.args.pattern.now) (sym first) underway;
@@ -31,8 +31,8 @@ pub bind-requires : goal.bind-requires
 bind-requires g c =
     let worked = subst (λ found. IsWorked g.row.N c.args.node c.loop-pairs.store c.loop-pairs.pattern c.next_binding.new.pattern (equations_in c.args.within.now c.loop-pairs.pairs) (equations_in c.args.within.now c.next_binding.new.pairs) (option_map (equation_of c.args.within.now c.next_binding.new.pairs.narrowed.items) found)) c.in-Some.is c.in_ok-pair.ensures.worked in
     let posed =
-        binding_posed g.row.N c.args.node c.loop-pairs.store c.loop-pairs.pattern c.next_binding.new.pattern (equations_in c.args.within.now c.loop-pairs.pairs) (equations_in c.args.within.now c.next_binding.new.pairs)
-        (equation_of c.args.within.now c.next_binding.new.pairs.narrowed.items c.in-Some.pair) worked
+    binding_posed g.row.N c.args.node c.loop-pairs.store c.loop-pairs.pattern c.next_binding.new.pattern (equations_in c.args.within.now c.loop-pairs.pairs) (equations_in c.args.within.now c.next_binding.new.pairs)
+    (equation_of c.args.within.now c.next_binding.new.pairs.narrowed.items c.in-Some.pair) worked
     in
     let there = sym c.context.ensures in (
       search rules,
@@ -58,11 +58,11 @@ pub loop-pairs-smaller : goal.loop-pairs-smaller
 loop-pairs-smaller g c =
     let worked = subst (λ found. IsWorked g.row.N c.args.node c.loop-pairs.store c.loop-pairs.pattern c.next_binding.new.pattern (equations_in c.args.within.now c.loop-pairs.pairs) (equations_in c.args.within.now c.next_binding.new.pairs) (option_map (equation_of c.args.within.now c.next_binding.new.pairs.narrowed.items) found)) c.in-Some.is c.in_ok-pair.ensures.worked in
     let posed =
-        binding_posed g.row.N c.args.node c.loop-pairs.store c.loop-pairs.pattern c.next_binding.new.pattern (equations_in c.args.within.now c.loop-pairs.pairs) (equations_in c.args.within.now c.next_binding.new.pairs)
-        (equation_of c.args.within.now c.next_binding.new.pairs.narrowed.items c.in-Some.pair) worked
+    binding_posed g.row.N c.args.node c.loop-pairs.store c.loop-pairs.pattern c.next_binding.new.pattern (equations_in c.args.within.now c.loop-pairs.pairs) (equations_in c.args.within.now c.next_binding.new.pairs)
+    (equation_of c.args.within.now c.next_binding.new.pairs.narrowed.items c.in-Some.pair) worked
     in
     let bound =
-        subst (λ region. IsBound g.row.N region c.in-Some.pair.left c.in-Some.pair.right c.loop-pairs.store c.bind.new.self) c.context.ensures c.in_ok-bind.ensures.ok
+    subst (λ region. IsBound g.row.N region c.in-Some.pair.left c.in-Some.pair.right c.loop-pairs.store c.bind.new.self) c.context.ensures c.in_ok-bind.ensures.ok
     in
     open_cells-falls g.row.N c.loop-pairs.store c.bind.new.self c.next_binding.new.pattern (equation_of c.args.within.now c.next_binding.new.pairs.narrowed.items c.in-Some.pair) posed worked.bindable bound
 
@@ -70,14 +70,14 @@ pub loop-pairs-preserved : goal.loop-pairs-preserved
 loop-pairs-preserved g c =
     let worked = subst (λ found. IsWorked g.row.N c.args.node c.loop-pairs.store c.loop-pairs.pattern c.next_binding.new.pattern (equations_in c.args.within.now c.loop-pairs.pairs) (equations_in c.args.within.now c.next_binding.new.pairs) (option_map (equation_of c.args.within.now c.next_binding.new.pairs.narrowed.items) found)) c.in-Some.is c.in_ok-pair.ensures.worked in
     let posed =
-        binding_posed g.row.N c.args.node c.loop-pairs.store c.loop-pairs.pattern c.next_binding.new.pattern (equations_in c.args.within.now c.loop-pairs.pairs) (equations_in c.args.within.now c.next_binding.new.pairs)
-        (equation_of c.args.within.now c.next_binding.new.pairs.narrowed.items c.in-Some.pair) worked
+    binding_posed g.row.N c.args.node c.loop-pairs.store c.loop-pairs.pattern c.next_binding.new.pattern (equations_in c.args.within.now c.loop-pairs.pairs) (equations_in c.args.within.now c.next_binding.new.pairs)
+    (equation_of c.args.within.now c.next_binding.new.pairs.narrowed.items c.in-Some.pair) worked
     in
     let bound =
-        subst (λ region. IsBound g.row.N region c.in-Some.pair.left c.in-Some.pair.right c.loop-pairs.store c.bind.new.self) c.context.ensures c.in_ok-bind.ensures.ok
+    subst (λ region. IsBound g.row.N region c.in-Some.pair.left c.in-Some.pair.right c.loop-pairs.store c.bind.new.self) c.context.ensures c.in_ok-bind.ensures.ok
     in
     let so_far =
-        underway_worked g.row.N c.args.node c.args.within.now c.args.x c.args.y c.args.store.now c.args.pattern.now c.loop-pairs.store c.loop-pairs.pattern c.next_binding.new.pattern (equations_in c.args.within.now c.loop-pairs.pairs) (equations_in c.args.within.now c.next_binding.new.pairs) _ c.loop-pairs.invariant.underway worked
+    underway_worked g.row.N c.args.node c.args.within.now c.args.x c.args.y c.args.store.now c.args.pattern.now c.loop-pairs.store c.loop-pairs.pattern c.next_binding.new.pattern (equations_in c.args.within.now c.loop-pairs.pairs) (equations_in c.args.within.now c.next_binding.new.pairs) _ c.loop-pairs.invariant.underway worked
     in
     record {
       underway = underway_bound g.row.N c.args.node c.args.within.now c.args.x c.args.y c.args.store.now c.args.pattern.now c.loop-pairs.store c.bind.new.self c.next_binding.new.pattern (equations_in c.args.within.now c.next_binding.new.pairs) (equation_of c.args.within.now c.next_binding.new.pairs.narrowed.items c.in-Some.pair) so_far worked.bindable bound;
@@ -88,11 +88,11 @@ pub returns : goal.returns
 returns g c =
     let worked = subst (λ found. IsWorked g.row.N c.args.node c.loop-pairs.store c.loop-pairs.pattern c.next_binding.new.pattern (equations_in c.args.within.now c.loop-pairs.pairs) (equations_in c.args.within.now c.next_binding.new.pairs) (option_map (equation_of c.args.within.now c.next_binding.new.pairs.narrowed.items) found)) (never_some c.in_ok-pair.field-0 c.in_default.not-Some) c.in_ok-pair.ensures.worked in
     let so_far =
-        underway_worked g.row.N c.args.node c.args.within.now c.args.x c.args.y c.args.store.now c.args.pattern.now c.loop-pairs.store c.loop-pairs.pattern c.next_binding.new.pattern (equations_in c.args.within.now c.loop-pairs.pairs) (equations_in c.args.within.now c.next_binding.new.pairs) None c.loop-pairs.invariant.underway worked
+    underway_worked g.row.N c.args.node c.args.within.now c.args.x c.args.y c.args.store.now c.args.pattern.now c.loop-pairs.store c.loop-pairs.pattern c.next_binding.new.pattern (equations_in c.args.within.now c.loop-pairs.pairs) (equations_in c.args.within.now c.next_binding.new.pairs) None c.loop-pairs.invariant.underway worked
     in
     let done =
-        subst (IsUnderway g.row.N c.args.node c.args.within.now c.args.x c.args.y c.args.store.now c.loop-pairs.store c.args.pattern.now c.next_binding.new.pattern)
-        (all_worked g.row.N c.args.node c.loop-pairs.store c.loop-pairs.pattern c.next_binding.new.pattern (equations_in c.args.within.now c.loop-pairs.pairs) (equations_in c.args.within.now c.next_binding.new.pairs) worked) so_far
+    subst (IsUnderway g.row.N c.args.node c.args.within.now c.args.x c.args.y c.args.store.now c.loop-pairs.store c.args.pattern.now c.next_binding.new.pattern)
+    (all_worked g.row.N c.args.node c.loop-pairs.store c.loop-pairs.pattern c.next_binding.new.pattern (equations_in c.args.within.now c.loop-pairs.pairs) (equations_in c.args.within.now c.next_binding.new.pairs) worked) so_far
     in
     record {
       ok =
