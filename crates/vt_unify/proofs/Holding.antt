@@ -182,23 +182,23 @@ module _ (N node : ℕ) (store : Cells) where
   pub TurnsAll-none : (pattern : FateMap) (xs : List Equation) → TurnsAll N node store pattern pattern xs xs
   TurnsAll-none pattern xs decision of = inl (record { fate = refl; same = λ alive s. ((λ h. h), (λ h. h)) })
 
-  -- equations that hold where one does, as far as decisions are alive
+  -- equations that hold where one does beside the others, as far as decisions are alive
   pub swapped : (pattern : FateMap) (old : List Equation) (equation : Equation) (added : List Equation)
       → ((decision : List Side) → IsOf N store.space decision → fate_at pattern decision ≡ Alive → (s : ℕ → Plain) → Solves (cell_count store) (ends_at store decision) s
-      → HoldsAt decision s equation ↔ HoldAt decision s added)
+      → HoldAt decision s old → HoldsAt decision s equation ↔ HoldAt decision s added)
       → TurnsAll N node store pattern pattern (old ++ equation ∷ []) (old ++ added)
   swapped pattern old equation added same decision of =
       inl (record { fate = refl; same = λ alive s. ((λ h. (h.0, forth s (same decision of alive s h.0) h.1)), (λ h. (h.0, back s (same decision of alive s h.0) h.1))) })
     where
-      forth : (s : ℕ → Plain) → (HoldsAt decision s equation ↔ HoldAt decision s added) → HoldAt decision s (old ++ added) → HoldAt decision s (old ++ equation ∷ [])
+      forth : (s : ℕ → Plain) → (HoldAt decision s old → HoldsAt decision s equation ↔ HoldAt decision s added) → HoldAt decision s (old ++ added) → HoldAt decision s (old ++ equation ∷ [])
       forth s both h =
           let cut = All-parts (HoldsAt decision s) old added h in
-          All-append (HoldsAt decision s) old (equation ∷ []) cut.0 (All-cons (HoldsAt decision s) equation [] (both.1 cut.1) (All-nil (HoldsAt decision s)))
+          All-append (HoldsAt decision s) old (equation ∷ []) cut.0 (All-cons (HoldsAt decision s) equation [] ((both cut.0).1 cut.1) (All-nil (HoldsAt decision s)))
 
-      back : (s : ℕ → Plain) → (HoldsAt decision s equation ↔ HoldAt decision s added) → HoldAt decision s (old ++ equation ∷ []) → HoldAt decision s (old ++ added)
+      back : (s : ℕ → Plain) → (HoldAt decision s old → HoldsAt decision s equation ↔ HoldAt decision s added) → HoldAt decision s (old ++ equation ∷ []) → HoldAt decision s (old ++ added)
       back s both h =
           let cut = All-parts (HoldsAt decision s) old (equation ∷ []) h in
-          All-append (HoldsAt decision s) old added cut.0 (both.0 (All-head (HoldsAt decision s) equation [] cut.1))
+          All-append (HoldsAt decision s) old added cut.0 ((both cut.0).0 (All-head (HoldsAt decision s) equation [] cut.1))
 
   -- an equation that has no solution at any decision that it speaks of
   pub killing : (before after : FateMap) (old : List Equation) (equation : Equation) → before.space ≡ store.space

@@ -17,3 +17,4 @@ pub mod WalkSearches
 pub mod WalkReaches
 pub mod WalkRoots
 pub mod WalkSoles
+pub mod Carrying

@@ -12,7 +12,8 @@ use Rattle.vt_unify.specs.Comparisons.{IsSameMade}
 use Rattle.vt_unify.specs.Equations.{Equation, IsPosed, equation_in, equations_of, Replaces, nothing, halves, parts}
 use Rattle.vt_unify.proofs.Admitted.{Admits-or, IsOf-in}
 use Rattle.vt_unify.proofs.Sums.{sum_all, sum_all-add, sum_all-le, sum_all-lt, sum_all-same}
-use Rattle.vt_unify.proofs.Weights.{weight, weights, weight-positive, made-weight}
+use Rattle.vt_unify.specs.Weights.{weight, weights}
+use Rattle.vt_unify.proofs.Weights.{weight-positive, made-weight}
 use Rattle.vt_unify.proofs.Holding.{Replaces-posed}
 
 -- a number, where a property holds

@@ -7,7 +7,7 @@ use Rattle.vt_dec.specs.Decisions.{Region}
 use Rattle.vt_unify.specs.declared.pairs.Pair.{Pair}
 use Rattle.vt_unify.specs.Equations.{Equation, equation_in, equations_of}
 use Rattle.vt_unify.proofs.Holding.{All-parts, append-none}
-use Rattle.vt_unify.specs.Pairs.{region_of, IsPlace, IsKnown, equation_of, equations_of_pairs, pairs_of}
+use Rattle.vt_unify.specs.Pairs.{region_of, IsPlace, IsKnown, IsMore, equation_of, equations_of_pairs, pairs_of}
 
 -- pairs stand for the same equations when more contexts are kept
 
@@ -18,6 +18,13 @@ IsPlace-more narrowed more (Some place) h = omega (arith, length-append narrowed
 region_of-more : (whole : Region) (narrowed more : List Region) (place : Option ℕ) → IsPlace narrowed place → region_of whole (narrowed ++ more) place ≡ region_of whole narrowed place
 region_of-more whole narrowed more None h = refl
 region_of-more whole narrowed more (Some place) h = get_or_append_left narrowed more whole place h
+
+-- what a pair stands for stays when more contexts are kept
+pub stable-more : (whole : Region) (narrowed later : List Region) → IsMore narrowed later → (pair : Pair) → IsKnown narrowed pair → IsKnown later pair × (equation_of whole later pair ≡ equation_of whole narrowed pair)
+stable-more whole narrowed later grows pair known = (
+  subst (λ own. IsKnown own pair) (sym grows.1) (IsPlace-more narrowed grows.0 pair.context known),
+  ap (λ own. equation_of whole own pair) grows.1 ∙ ap (λ (within : Region). record { within = within; left = pair.left; right = pair.right }) (region_of-more whole narrowed grows.0 pair.context known),
+)
 
 pub equations-more : (whole : Region) (narrowed more : List Region) (pairs : List Pair) → All (IsKnown narrowed) pairs
     → equations_of_pairs whole (narrowed ++ more) pairs ≡ equations_of_pairs whole narrowed pairs
@@ -118,3 +125,10 @@ module _ (whole : Region) (narrowed : List Region) (before pairs : List Pair) (l
 
   pub first_known : All (IsKnown narrowed) pairs
   first_known = subst (All (IsKnown narrowed)) (sym one_pair) (All-cons (IsKnown narrowed) (record { context = None; left = left; right = right }) [] tt (All-nil (IsKnown narrowed)))
+
+pub grows_twice : (narrowed later last : List Region) (one other : Region) → later ≡ narrowed ++ one ∷ [] → last ≡ later ++ other ∷ [] → IsMore narrowed last
+grows_twice narrowed later last one other kept kept_too =
+    (one ∷ other ∷ [], kept_too ∙ ap (λ own. own ++ other ∷ []) kept ∙ append_assoc narrowed (one ∷ []) (other ∷ []))
+
+pub stays_same : (narrowed later : List Region) → later ≡ narrowed → IsMore narrowed later
+stays_same narrowed later kept = ([], kept ∙ sym (append-none narrowed))

@@ -18,8 +18,10 @@ use Rattle.vt_unify.specs.declared.life.Life.TheVariants as life
 use Rattle.vt_unify.specs.Walks.{CanSplit}
 use Rattle.vt_unify.specs.Comparisons.{IsSameMade, IsComparison}
 use Rattle.vt_unify.specs.Equations.{Equation, HoldsAt, HoldAt, IsPosed, IsInside, equations_of, Replaces, nothing, halves, parts}
+use Rattle.vt_unify.specs.Carried.{IsCarried}
 use Rattle.vt_unify.specs.Turns.{IsLifeOf, TurnsAll, IsSplit, IsReplaced, IsOpened, IsTurn, IsWorked}
 use Rattle.vt_unify.proofs.Holding.{All-parts, append-none, halves-hold, parts-hold, swapped, killing, TurnsAll-then, Replaces-posed, Replaces-inside}
+use Rattle.vt_unify.proofs.Carrying.{lighter-hold}
 use Rattle.vt_unify.proofs.Measures.{left_work, left_work-falls}
 
 -- what becomes of one equation, by what was found of it
@@ -27,7 +29,7 @@ use Rattle.vt_unify.proofs.Measures.{left_work, left_work-falls}
 module _ (N node : ℕ) (store : Cells) (before : FateMap) (equation : Equation) (old : List Equation) (posed : IsPosed N store equation) where
   turn_replaced : (new added : List Equation) → Replaces N store equation added → new ≡ old ++ added
       → ((decision : List Side) → IsOf N store.space decision → fate_at before decision ≡ Alive → (s : ℕ → Plain) → Solves (cell_count store) (ends_at store decision) s
-      → HoldsAt decision s equation ↔ HoldAt decision s added)
+      → HoldAt decision s old → HoldsAt decision s equation ↔ HoldAt decision s added)
       → IsTurn N node store before before equation old new None
   turn_replaced new added replaces appended same = (
     subst (TurnsAll N node store before before (old ++ equation ∷ [])) (sym (append-none new ∙ appended)) (swapped N node store before old equation added same),
@@ -38,15 +40,15 @@ module _ (N node : ℕ) (store : Cells) (before : FateMap) (equation : Equation)
   pub turn_split : (dim : ℕ) (new : List Equation) → CanSplit N equation.within dim → IsSplit N equation dim old new → IsTurn N node store before before equation old new None
   turn_split dim new can split =
       turn_replaced new _ (halves dim split.right split.left can split.narrows_right split.narrows_left) split.appended
-      (λ d of alive s solves. halves-hold N d s equation dim split.right split.left of.sized can.0 split.narrows_right split.narrows_left)
+      (λ d of alive s solves rest. halves-hold N d s equation dim split.right split.left of.sized can.0 split.narrows_right split.narrows_left)
 
   pub turn_dead : IsLifeOf N before equation.within life.Dead → IsTurn N node store before before equation old old None
   turn_dead dead =
-      turn_replaced old [] nothing (sym (append-none old)) (λ d of alive s solves. ((λ h. All-nil (HoldsAt d s)), (λ h admits. absurd (dead d admits alive))))
+      turn_replaced old [] nothing (sym (append-none old)) (λ d of alive s solves rest. ((λ h. All-nil (HoldsAt d s)), (λ h admits. absurd (dead d admits alive))))
 
   pub turn_equal : IsComparison N store equation.within equation.left equation.right found.Equal → IsTurn N node store before before equation old old None
   turn_equal always =
-      turn_replaced old [] nothing (sym (append-none old)) (λ d of alive s solves. ((λ h. All-nil (HoldsAt d s)), (λ h admits. always d admits s solves)))
+      turn_replaced old [] nothing (sym (append-none old)) (λ d of alive s solves rest. ((λ h. All-nil (HoldsAt d s)), (λ h admits. always d admits s solves)))
 
   pub turn_parts : (lefts rights : List ℕ) (new : List Equation)
       → ((decision : List Side) → IsOf N store.space decision → IsAcyclic (cell_count store) (ends_at store decision))
@@ -55,7 +57,13 @@ module _ (N node : ℕ) (store : Cells) (before : FateMap) (equation : Equation)
       → new ≡ old ++ equations_of equation.within lefts rights → IsTurn N node store before before equation old new None
   turn_parts lefts rights new acyclic arities made appended =
       turn_replaced new (equations_of equation.within lefts rights) (parts lefts rights made) appended
-      (λ d of alive s solves. parts-hold N d s store (acyclic d of) (arities d of) solves equation lefts rights posed.left posed.right (made d))
+      (λ d of alive s solves rest. parts-hold N d s store (acyclic d of) (arities d of) solves equation lefts rights posed.left posed.right (made d))
+
+  -- an equation that holds wherever the others do
+  pub turn_skipped : IsCarried N store before (old ++ equation ∷ []) equation → IsTurn N node store before before equation old old None
+  turn_skipped carried =
+      turn_replaced old [] nothing (sym (append-none old))
+      (λ d of alive s solves rest. ((λ h. All-nil (HoldsAt d s)), (λ h. carried d of alive s solves (lighter-hold store d s old equation rest))))
 
   pub turn_killed : (after : FateMap) → before.space ≡ store.space → IsLifeOf N before equation.within life.Alive → IsComparison N store equation.within equation.left equation.right found.Differ
       → IsMasked N equation.within node before after → IsTurn N node store before after equation old old None
@@ -69,7 +77,7 @@ module _ (N node : ℕ) (store : Cells) (before : FateMap) (equation : Equation)
       → IsTurn N node store before before equation old old (Some (record { within = equation.within; left = cell; right = to }))
   turn_open cell to alive compared = (
     swapped N node store before old equation (record { within = equation.within; left = cell; right = to } ∷ [])
-        (λ d of living s solves. (
+        (λ d of living s solves rest. (
           (λ h. All-cons (HoldsAt d s) (record { within = equation.within; left = cell; right = to }) [] (λ admits. ((compared.2 d admits).1 s solves).0 (h admits)) (All-nil (HoldsAt d s))),
           (λ h admits. ((compared.2 d admits).1 s solves).1 (All-head (HoldsAt d s) (record { within = equation.within; left = cell; right = to }) [] h admits)),
         )),

@@ -4,24 +4,9 @@ use Rattle.vt_type.specs.declared.head.Head.{Head}
 use Rattle.vt_store.specs.Ends.{CellEnd, Free, Same, Made, EachCell, EndsWithin, IsAcyclic}
 use Rattle.vt_store.specs.Views.{Follows, arrived, onward}
 use Rattle.vt_store.proofs.Cells.{All-head, All-tail, All-both, EachCell-each, EndsWithin-within}
+use Rattle.vt_unify.specs.Weights.{weights, weight_of, weight}
 use Rattle.vt_unify.specs.Comparisons.{IsMadeOf}
 use Rattle.vt_unify.proofs.Solving.{linked_within, Follows-within}
-
--- A cell weighs one more than what its end names, each cell as often as it is named.
-
-abbrev pub weights : (ℕ → ℕ) → List ℕ → ℕ
-weights weigh [] = 0
-weights weigh (kid ∷ kids) = weigh kid + weights weigh kids
-
-abbrev weight_of : (ℕ → ℕ) → CellEnd → ℕ
-weight_of weigh Free = 1
-weight_of weigh (Same cell) = suc (weigh cell)
-weight_of weigh (Made head kids) = suc (weights weigh kids)
-
--- the weight, as far down as so many cells
-abbrev pub weight : (ℕ → CellEnd) → ℕ → ℕ → ℕ
-weight e zero cell = 1
-weight e (suc most) cell = weight_of (weight e most) (e cell)
 
 pub weight-positive : (e : ℕ → CellEnd) (most cell : ℕ) → 0 < weight e most cell
 weight-positive e zero cell = omega arith

@@ -8,3 +8,6 @@ pub mod Samplings
 pub mod CellSets
 pub mod Searches
 pub mod Soles
+pub mod Weights
+pub mod Seen
+pub mod Carried

@@ -1,4 +1,4 @@
-use Rattle.std.specs.Prelude.{ℕ, ◌<◌, List, [], ◌∷◌, map, Option, Some, None, length, slice_index_or}
+use Rattle.std.specs.Prelude.{◌≡◌, ℕ, ◌<◌, List, [], ◌∷◌, ◌++◌, map, Option, Some, None, length, slice_index_or}
 use Rattle.std.specs.List.{All}
 use Rattle.vt_dec.specs.Decisions.{Region}
 use Rattle.vt_unify.specs.declared.pairs.Pair.{Pair}
@@ -24,6 +24,10 @@ equation_of whole narrowed pair = record { within = region_of whole narrowed pai
 
 abbrev pub equations_of_pairs : Region → List Region → List Pair → List Equation
 equations_of_pairs whole narrowed pairs = map (equation_of whole narrowed) pairs
+
+-- more contexts are kept
+abbrev pub IsMore : List Region → List Region → Type 0
+IsMore narrowed later = (more : List Region) × (later ≡ narrowed ++ more)
 
 -- the equations that the pairs stand for
 abbrev pub equations_in : {N : ℕ} → Region → Pairs N → List Equation

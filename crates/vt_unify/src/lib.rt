@@ -26,6 +26,7 @@ mod replace;
 mod root;
 mod samples;
 mod search;
+mod seen;
 mod sole;
 #[cfg(test)]
 mod tests;

@@ -1,7 +1,7 @@
 //! What takes the place of a pair.
 ghost use Rattle.std.specs.Prelude.{◌≡◌, ◌++◌, OnOk};
 ghost use Rattle.vt_unify.specs.Turns.{IsSplit};
-ghost use Rattle.vt_unify.specs.Pairs.{IsKnown, AreKnown, equation_of, equations_in, pairs_of, region_of};
+ghost use Rattle.vt_unify.specs.Pairs.{IsKnown, AreKnown, IsMore, equation_of, equations_in, pairs_of, region_of};
 ghost use Rattle.vt_unify.specs.Walks.{CanSplit};
 
 use crate::half::half;
@@ -21,6 +21,7 @@ pub(crate) fn push_halves<const N: usize>(
     requires all_known { AreKnown pairs.old }
     requires can_split { CanSplit N (region_of whole.now pairs.old.narrowed.items pair.now.context) dim }
     ensures known { OnOk result (AreKnown pairs.new) }
+    ensures grows { OnOk result (IsMore pairs.old.narrowed.items pairs.new.narrowed.items) }
     ensures split { OnOk result (IsSplit N (equation_of whole.now pairs.old.narrowed.items pair.now) dim (equations_in whole.now pairs.old) (equations_in whole.now pairs.new)) }
 {
     let within = pairs.context(whole, pair);

@@ -1,5 +1,5 @@
 use crate::unify;
-use crate::walk_tests::chain;
+use crate::walk_tests::{chain, tower};
 use std::test::Fail;
 use vt_dec::{Context, Decision, Dim, Fate, NodeId, Side, Space};
 use vt_store::{Look, Pattern, Store};
@@ -73,5 +73,19 @@ fn a_chain_of_choices_is_one_way(rt: HostRuntime) -> Result<(), Fail> {
     unify(&mut store, &mut pattern, &whole, last, int, NodeId(2))?;
     assert!(rt; is_int(store.look(last, &right())));
     assert!(rt; pattern.fate(&right()) == Fate::Alive);
+    Ok(())
+}
+
+#[test]
+fn towers_of_shared_pairs_are_compared_once(rt: HostRuntime) -> Result<(), Fail> {
+    let mut store = Store::<1>::new(rt.alloc(), Space::All);
+    let mut pattern = Pattern::alive(rt.alloc(), Space::All);
+    let one = store.fresh()?;
+    let left = tower(&mut store, one)?;
+    let other = store.fresh()?;
+    let right = tower(&mut store, other)?;
+    let whole = Context::whole(Space::All);
+    unify(&mut store, &mut pattern, &whole, left, right, NodeId(5))?;
+    assert!(rt; pattern.fate(&Decision::all_left()) == Fate::Alive);
     Ok(())
 }

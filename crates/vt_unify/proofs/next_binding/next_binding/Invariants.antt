@@ -2,6 +2,7 @@ use Rattle.std.proofs.Common.{◌≡◌}
 use Rattle.std.specs.List.{All}
 use Rattle.vt_dec.specs.Decisions.{Region}
 use Rattle.vt_unify.specs.Equations.{IsPosed, IsInside}
+use Rattle.vt_unify.specs.Carried.{AreCarried}
 use Rattle.vt_unify.specs.Turns.{TurnsAll}
 use Rattle.vt_unify.specs.Pairs.{AreKnown, equations_in}
 use Rattle.vt_unify.proofs.Measures.{left_work}
@@ -13,6 +14,7 @@ invariant-loop-pair g l = record {
   posed : All (IsPosed g.row.N l.store) (equations_in l.whole l.pairs);
   inside : (region : Region) → All (IsInside region) (equations_in l.whole l.fn.pairs) → All (IsInside region) (equations_in l.whole l.pairs);
   known : AreKnown l.pairs;
+  carried : AreCarried g.row.N l.store l.pattern l.whole l.pairs.narrowed.items (equations_in l.whole l.pairs) l.seen;
   space : l.pattern.space ≡ l.fn.pattern.space;
 }
 

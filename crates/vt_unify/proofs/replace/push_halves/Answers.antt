@@ -1,7 +1,7 @@
 use Rattle.std.proofs.Common.{subst}
 use Rattle.vt_dec.specs.declared.side.Side.TheVariants.{Left, Right}
 use Rattle.vt_dec.specs.Decisions.{Narrows}
-use Rattle.vt_unify.proofs.Resolving.{two_more}
+use Rattle.vt_unify.proofs.Resolving.{two_more, grows_twice}
 use Rattle.vt_unify.proofs.replace.push_halves.Goals as goal
 
 pub returns-clause-split : goal.returns-clause-split
@@ -15,3 +15,8 @@ returns-clause-split g c = record {
       c.push_narrowed.new.self.list.items c.push_narrowed-2.new.self.list.items c.args.pair.now c.requires.all_known c.in_ok-push_narrowed.ensures.narrowed c.in_ok-push_narrowed.ensures.list
       c.in_ok-push_narrowed-2.ensures.narrowed c.in_ok-push_narrowed-2.ensures.list;
 }
+
+pub returns-clause-grows : goal.returns-clause-grows
+returns-clause-grows g c =
+    grows_twice c.args.pairs.now.narrowed.items c.push_narrowed.new.self.narrowed.items c.push_narrowed-2.new.self.narrowed.items c.half-right.result c.half-left.result c.in_ok-push_narrowed.ensures.narrowed
+    c.in_ok-push_narrowed-2.ensures.narrowed
