@@ -179,9 +179,6 @@ module _ (N node : ℕ) (store : Cells) where
   TurnsAll-then first second third xs ys zs one other decision of =
       Turns-then node (fate_at first decision) (fate_at second decision) (fate_at third decision) (left_at decision store xs) (left_at decision store ys) (left_at decision store zs) (one decision of) (other decision of)
 
-  pub TurnsAll-none : (pattern : FateMap) (xs : List Equation) → TurnsAll N node store pattern pattern xs xs
-  TurnsAll-none pattern xs decision of = inl (record { fate = refl; same = λ alive s. ((λ h. h), (λ h. h)) })
-
   -- equations that hold where one does beside the others, as far as decisions are alive
   pub swapped : (pattern : FateMap) (old : List Equation) (equation : Equation) (added : List Equation)
       → ((decision : List Side) → IsOf N store.space decision → fate_at pattern decision ≡ Alive → (s : ℕ → Plain) → Solves (cell_count store) (ends_at store decision) s

@@ -5,13 +5,6 @@ use vt_dec::{Context, Decision, Dim, Fate, NodeId, Side, Space};
 use vt_store::{Look, Pattern, Store};
 use vt_type::Head;
 
-/// The decision that takes dimension 0 to the right, and all others to the left.
-fn right() -> Decision<1> {
-    let mut decision = Decision::all_left();
-    decision.set(Dim(0), Side::Right);
-    decision
-}
-
 fn is_int(look: Look<'_>) -> bool {
     match look {
         Look::Con(head, kids) => head.is(Head::Int) && kids.is_empty(),
@@ -27,9 +20,12 @@ fn an_open_cell_becomes_the_other_one(rt: HostRuntime) -> Result<(), Fail> {
     let int = store.con(Head::Int, &[])?;
     let whole = Context::whole(Space::All);
     unify(&mut store, &mut pattern, &whole, open, int, NodeId(1))?;
-    assert!(rt; is_int(store.look(open, &Decision::all_left())));
-    assert!(rt; pattern.fate(&Decision::all_left()) == Fate::Alive);
-    assert!(rt; pattern.fate(&right()) == Fate::Alive);
+    let left = Decision::all_left();
+    let mut right = left;
+    right.set(Dim(0), Side::Right);
+    assert!(rt; is_int(store.look(open, &left)));
+    assert!(rt; pattern.fate(&left) == Fate::Alive);
+    assert!(rt; pattern.fate(&right) == Fate::Alive);
     Ok(())
 }
 
@@ -40,12 +36,15 @@ fn heads_that_differ_kill_their_context_alone(rt: HostRuntime) -> Result<(), Fai
     let int = store.con(Head::Int, &[])?;
     let bool = store.con(Head::Bool, &[])?;
     let whole = Context::whole(Space::All);
-    let Some(left) = whole.with(Dim(0), Side::Left) else {
+    let Some(lefts) = whole.with(Dim(0), Side::Left) else {
         return Ok(());
     };
-    unify(&mut store, &mut pattern, &left, int, bool, NodeId(7))?;
-    assert!(rt; pattern.fate(&Decision::all_left()) == Fate::Dead(NodeId(7)));
-    assert!(rt; pattern.fate(&right()) == Fate::Alive);
+    unify(&mut store, &mut pattern, &lefts, int, bool, NodeId(7))?;
+    let left = Decision::all_left();
+    let mut right = left;
+    right.set(Dim(0), Side::Right);
+    assert!(rt; pattern.fate(&left) == Fate::Dead(NodeId(7)));
+    assert!(rt; pattern.fate(&right) == Fate::Alive);
     Ok(())
 }
 
@@ -57,8 +56,11 @@ fn a_cell_is_never_a_list_of_itself(rt: HostRuntime) -> Result<(), Fail> {
     let list = store.con(Head::List, &[open])?;
     let whole = Context::whole(Space::All);
     unify(&mut store, &mut pattern, &whole, open, list, NodeId(3))?;
-    assert!(rt; pattern.fate(&Decision::all_left()) == Fate::Dead(NodeId(3)));
-    assert!(rt; pattern.fate(&right()) == Fate::Dead(NodeId(3)));
+    let left = Decision::all_left();
+    let mut right = left;
+    right.set(Dim(0), Side::Right);
+    assert!(rt; pattern.fate(&left) == Fate::Dead(NodeId(3)));
+    assert!(rt; pattern.fate(&right) == Fate::Dead(NodeId(3)));
     Ok(())
 }
 
@@ -71,8 +73,10 @@ fn a_chain_of_choices_is_one_way(rt: HostRuntime) -> Result<(), Fail> {
     let int = store.con(Head::Int, &[])?;
     let whole = Context::whole(Space::All);
     unify(&mut store, &mut pattern, &whole, last, int, NodeId(2))?;
-    assert!(rt; is_int(store.look(last, &right())));
-    assert!(rt; pattern.fate(&right()) == Fate::Alive);
+    let mut right = Decision::all_left();
+    right.set(Dim(20), Side::Right);
+    assert!(rt; is_int(store.look(last, &right)));
+    assert!(rt; pattern.fate(&right) == Fate::Alive);
     Ok(())
 }
 
