@@ -1,6 +1,5 @@
-use Rattle.std.proofs.Common.{◌≡◌, ◌⊎◌, ◌↔◌, ℕ, ◌*◌, ◌<◌, List, [], ◌∷◌, ◌++◌, Option, Some, None, length, map, slice_get, refl, ap, sym, subst, ◌∙◌, inl, inr, arith}
+use Rattle.std.proofs.Common.{◌≡◌, ◌⊎◌, ◌↔◌, ℕ, ◌*◌, ◌<◌, List, [], ◌∷◌, ◌++◌, Some, length, map, slice_get, refl, ap, sym, subst, ◌∙◌, inl, inr, arith}
 use Rattle.std.specs.List.{All}
-use Rattle.std.specs.Option.{option_to_list}
 use Rattle.std.proofs.lemmas.List.Elements.{All-nil, All-cons, All-head, All-tail, All-append}
 use Rattle.vt_dec.specs.declared.side.Side.{Side}
 use Rattle.vt_dec.specs.declared.side.Side.TheVariants.{Left, Right}
@@ -11,17 +10,16 @@ use Rattle.vt_dec.proofs.Agreement.{Agrees-length}
 use Rattle.vt_type.specs.declared.head.Head.{Head}
 use Rattle.vt_type.specs.declared.plain.Plain.{Plain}
 use Rattle.vt_type.specs.Plain.{arity}
-use Rattle.vt_store.specs.Ends.{IsAcyclic, AreArities, HasArity, EachCell, Made}
+use Rattle.vt_store.specs.Ends.{IsAcyclic, AreArities, HasArity, EachCell}
 use Rattle.vt_store.specs.Fates.{killed}
 use Rattle.vt_store.specs.Patterns.{FateMap, fate_at, IsMasked}
 use Rattle.vt_store.specs.Solutions.{Solves}
 use Rattle.vt_store.specs.Stores.{Cells, cell_count, ends_at}
 use Rattle.vt_store.specs.Writes.{IsOf}
 use Rattle.vt_store.proofs.Writing.{side_at}
-use Rattle.vt_unify.specs.Walks.{CanSplit}
 use Rattle.vt_unify.specs.Comparisons.{AreNeverEqual, IsMadeOf, IsSameMade}
 use Rattle.vt_unify.specs.Equations.{Equation, HoldsAt, HoldAt, IsPosed, IsInside, equation_in, equations_of, Replaces, nothing, halves, parts}
-use Rattle.vt_unify.specs.Turns.{Stays, Dies, Turns, TurnsAll, left_at, IsTurn}
+use Rattle.vt_unify.specs.Turns.{Turns, TurnsAll, left_at}
 use Rattle.vt_unify.proofs.Admitted.{Admits-or, IsOf-in}
 use Rattle.vt_unify.proofs.Solving.{named_inside, Follows-within, same_made}
 

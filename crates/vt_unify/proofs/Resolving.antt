@@ -1,11 +1,11 @@
-use Rattle.std.proofs.Common.{◌≡◌, ℕ, ◌+◌, ◌<◌, List, [], ◌∷◌, ◌++◌, Option, Some, None, map, length, refl, ap, sym, subst, ◌∙◌, arith, length-append, append_assoc}
+use Rattle.std.proofs.Common.{◌≡◌, ℕ, List, [], ◌∷◌, ◌++◌, Option, Some, None, length, refl, ap, sym, subst, ◌∙◌, arith, length-append, append_assoc}
 use Rattle.std.specs.List.{All}
 use Rattle.std.proofs.lemmas.List.{get_or_append_left, map-append}
 use Rattle.std.proofs.lemmas.List.Elements.{All-nil, All-cons, All-head, All-tail, All-append, All-weaker}
 use Rattle.std.proofs.Math.Seq.{get_or-append_seam}
 use Rattle.vt_dec.specs.Decisions.{Region}
 use Rattle.vt_unify.specs.declared.pairs.Pair.{Pair}
-use Rattle.vt_unify.specs.Equations.{Equation, equation_in, equations_of}
+use Rattle.vt_unify.specs.Equations.{Equation, equations_of}
 use Rattle.vt_unify.proofs.Holding.{All-parts, append-none}
 use Rattle.vt_unify.specs.Pairs.{region_of, IsPlace, IsKnown, IsMore, equation_of, equations_of_pairs, pairs_of}
 

@@ -1,5 +1,5 @@
-use Rattle.std.proofs.Common.{◌≡◌, ◌⊎◌, ◌↔◌, ℕ, zero, suc, ◌+◌, ◌<◌, ◌≤◌, List, [], ◌∷◌, length, map, refl, ap, sym, subst, ◌∙◌, inl, inr, arith}
-use Rattle.std.specs.List.{All, Contains}
+use Rattle.std.proofs.Common.{◌≡◌, ◌⊎◌, ◌↔◌, ℕ, zero, suc, ◌+◌, ◌<◌, ◌≤◌, List, [], ◌∷◌, map, refl, ap, sym, subst, ◌∙◌, inl, inr, arith}
+use Rattle.std.specs.List.{All}
 use Rattle.std.proofs.lemmas.Bool.{cases_eq}
 use Rattle.std.proofs.lemmas.List.Elements.{All-nil, All-cons, All-weaker, All-contains}
 use Rattle.vt_type.specs.declared.head.Head.{Head}
@@ -12,7 +12,7 @@ use Rattle.vt_store.specs.Solutions.{plain_kids, Fits, Solves}
 use Rattle.vt_store.specs.Views.{Follows, arrived, onward}
 use Rattle.vt_store.proofs.Cells.{EachCell-each, EndsWithin-within}
 use Rattle.vt_unify.specs.Walks.{IsNoLink}
-use Rattle.vt_unify.specs.Comparisons.{AreAlwaysEqual, AreNeverEqual, IsMadeOf, IsSameMade}
+use Rattle.vt_unify.specs.Comparisons.{IsMadeOf, IsSameMade}
 
 -- ---- what stands in a type
 

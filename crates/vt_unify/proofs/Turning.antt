@@ -1,4 +1,4 @@
-use Rattle.std.proofs.Common.{◌≡◌, ◌↔◌, ℕ, ◌<◌, Bool, true, false, List, [], ◌∷◌, ◌++◌, Option, Some, None, MatchOption, is_some, length, refl, ap, sym, subst, ◌∙◌, arith}
+use Rattle.std.proofs.Common.{◌≡◌, ◌↔◌, ℕ, ◌<◌, true, false, List, [], ◌∷◌, ◌++◌, Option, Some, None, MatchOption, is_some, length, refl, ap, sym, subst, ◌∙◌, arith}
 use Rattle.std.specs.List.{All}
 use Rattle.std.specs.Option.{option_to_list, option_map}
 use Rattle.std.proofs.lemmas.List.Elements.{All-nil, All-cons, All-head, All-append}
@@ -13,7 +13,6 @@ use Rattle.vt_store.specs.Stores.{Cells, cell_count, ends_at}
 use Rattle.vt_store.specs.Writes.{IsOf}
 use Rattle.vt_unify.specs.declared.compare.Comparison.{Comparison}
 use Rattle.vt_unify.specs.declared.compare.Comparison.TheVariants as found
-use Rattle.vt_unify.specs.declared.life.Life.{Life}
 use Rattle.vt_unify.specs.declared.life.Life.TheVariants as life
 use Rattle.vt_unify.specs.Walks.{CanSplit}
 use Rattle.vt_unify.specs.Comparisons.{IsSameMade, IsComparison}

@@ -3,7 +3,6 @@ use Rattle.std.specs.List.{All}
 use Rattle.std.specs.Option.{option_to_list}
 use Rattle.std.proofs.lemmas.List.Elements.{All-nil, All-cons, All-head, All-append, All-weaker}
 use Rattle.vt_dec.specs.declared.side.Side.{Side}
-use Rattle.vt_dec.specs.declared.fate.Fate.{Fate}
 use Rattle.vt_dec.specs.declared.fate.Fate.TheVariants.{Alive, Dead}
 use Rattle.vt_dec.specs.Decisions.{Region, Admits}
 use Rattle.vt_type.specs.declared.plain.Plain.{Plain}
@@ -13,12 +12,12 @@ use Rattle.vt_store.specs.Patterns.{FateMap, fate_at}
 use Rattle.vt_store.specs.Solutions.{Solves}
 use Rattle.vt_store.specs.Stores.{Cells, cell_count, ends_at, IsBound}
 use Rattle.vt_store.specs.Writes.{IsOf}
-use Rattle.vt_unify.specs.Equations.{Equation, HoldsAt, HoldAt, IsPosed, IsInside}
+use Rattle.vt_unify.specs.Equations.{Equation, HoldsAt, IsPosed, IsInside}
 use Rattle.vt_unify.specs.Turns.{Turns, left_at, IsBindable, IsWorked}
 use Rattle.vt_unify.specs.Unified.{AreEqualSolutions, IsUnified}
 use Rattle.vt_unify.proofs.Admitted.{Admits-or, IsOf-in}
 use Rattle.vt_unify.proofs.Solving.{bound_solves}
-use Rattle.vt_unify.proofs.Holding.{All-parts, append-none, Turns-then, alive_dead}
+use Rattle.vt_unify.proofs.Holding.{All-parts, Turns-then, alive_dead}
 use Rattle.vt_unify.proofs.Binding.{unbound}
 
 -- the solutions that are wanted: x and y are equal where the decision is admitted

@@ -1,9 +1,9 @@
-use Rattle.std.proofs.Common.{◌≡◌, ℕ, zero, suc, ◌+◌, ◌<◌, ◌≤◌, List, [], ◌∷◌, refl, ap, sym, subst, ◌∙◌, arith}
+use Rattle.std.proofs.Common.{◌≡◌, ℕ, zero, suc, ◌<◌, ◌≤◌, List, [], ◌∷◌, refl, ap, ◌∙◌, arith}
 use Rattle.std.specs.List.{All}
 use Rattle.vt_type.specs.declared.head.Head.{Head}
 use Rattle.vt_store.specs.Ends.{CellEnd, Free, Same, Made, EachCell, EndsWithin, IsAcyclic}
 use Rattle.vt_store.specs.Views.{Follows, arrived, onward}
-use Rattle.vt_store.proofs.Cells.{All-head, All-tail, All-both, EachCell-each, EndsWithin-within}
+use Rattle.vt_store.proofs.Cells.{All-head, All-tail, All-both, EndsWithin-within}
 use Rattle.vt_unify.specs.Weights.{weights, weight_of, weight}
 use Rattle.vt_unify.specs.Comparisons.{IsMadeOf}
 use Rattle.vt_unify.proofs.Solving.{linked_within, Follows-within}

@@ -1,4 +1,4 @@
-use Rattle.std.proofs.Common.{◌≡◌, [], ◌∷◌, ◌++◌, Option, Some, None, is_some, true, false, ap, subst, sym, ◌∙◌, rules}
+use Rattle.std.proofs.Common.{[], ◌∷◌, ◌++◌, ap, subst, sym, ◌∙◌, rules}
 use Rattle.std.specs.Option.{option_map}
 use Rattle.vt_unify.specs.Turns.{IsTurn}
 use Rattle.vt_unify.specs.Pairs.{equation_of, equations_in, equations_of_pairs}

@@ -1,7 +1,7 @@
 use Rattle.std.proofs.Common.{◌≡◌, false, subst, rules}
 use Rattle.vt_store.specs.Patterns.{IsMasked}
 use Rattle.vt_unify.specs.declared.compare.Comparison.TheVariants as found
-use Rattle.vt_unify.specs.Pairs.{equation_of, equations_in, region_of}
+use Rattle.vt_unify.specs.Pairs.{equation_of, equations_in}
 use Rattle.vt_unify.proofs.Resolving.{parts_more, parts_known, stable-more}
 use Rattle.vt_unify.proofs.Carrying.{gives_equal, gives_killed, gives_skipped, carried_same, carried_more, carried_split, carried_parts}
 use Rattle.vt_unify.proofs.Turning.{turn_split, turn_equal, turn_parts, turn_killed, turn_open, turn_skipped, compared_at}

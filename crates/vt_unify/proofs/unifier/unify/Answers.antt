@@ -1,4 +1,4 @@
-use Rattle.std.proofs.Common.{◌≡◌, List, [], ◌∷◌, ◌++◌, None, refl, subst, sym, ◌∙◌, rules}
+use Rattle.std.proofs.Common.{◌≡◌, List, None, refl, subst, sym, rules}
 use Rattle.std.specs.Option.{option_map}
 use Rattle.vt_dec.specs.declared.side.Side.{Side}
 use Rattle.vt_dec.specs.Contexts.{least_of}
@@ -6,7 +6,6 @@ use Rattle.vt_dec.specs.Decisions.{Region, Admits}
 use Rattle.vt_dec.proofs.Regions.{Admits-least}
 use Rattle.vt_store.specs.Ends.{Free, Reaches}
 use Rattle.vt_store.specs.Stores.{ends_at, IsBound}
-use Rattle.vt_unify.specs.Equations.{Equation}
 use Rattle.vt_unify.specs.Turns.{IsWorked}
 use Rattle.vt_unify.specs.Pairs.{equation_of, equations_in}
 use Rattle.vt_unify.proofs.Resolving.{first_equation, first_known}
