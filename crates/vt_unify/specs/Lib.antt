@@ -1,0 +1,13 @@
+pub mod Walks
+pub mod Unified
+pub mod Comparisons
+pub mod Equations
+pub mod Turns
+pub mod Pairs
+pub mod Samplings
+pub mod CellSets
+pub mod Searches
+pub mod Soles
+pub mod Weights
+pub mod Seen
+pub mod Carried
