@@ -27,7 +27,7 @@ pub(crate) fn sole<const N: usize>(
     let mut known = BTreeMap::new(store.allocator());
     let mut pending = Vec::new(store.allocator());
     pending.push(cell)?;
-    // Each turn finds out more. The bound is far above what a store can hold.
+    // What the table says is right at any time, so the bound makes no answer wrong; no store comes near it.
     'turns: for _ in 0..u64::MAX {
         let Some(next) = pending.pop() else { break };
         settle(store, within, next, &mut known, &mut pending)?;
