@@ -1,0 +1,16 @@
+use thiserror::Error;
+
+/// Why tokens spell no program that is admitted. A token is given by its place in the list; the length
+/// of the list stands for the end of the text.
+#[derive(Debug, Drop, Error)]
+pub enum ParseFault {
+    /// No program begins with the tokens up to this one.
+    #[error("unexpected token")]
+    Unexpected { token: usize },
+    /// A program begins with the tokens up to this one, but each is nested too deep.
+    #[error("nested too deep")]
+    TooDeep { token: usize },
+    /// Memory ran out.
+    #[error("out of memory")]
+    Memory,
+}

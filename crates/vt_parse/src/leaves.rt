@@ -1,0 +1,120 @@
+//! What one token gives: a name, an expression, the start of a construct.
+ghost use Rattle.std.specs.Prelude.{◌≡◌, IfOk, slice_index};
+ghost use Rattle.vt_lex.specs.Spans.{IsSpanIn};
+ghost use Rattle.vt_syntax.specs.Spelling.{word_at, dim_at, part};
+ghost use Rattle.vt_parse.specs.declared.start.Opening;
+ghost use Rattle.vt_parse.specs.Frames.{operand_of, binder_at, dim_binder_at, leaf_at, opened, opened_place, stated};
+
+use crate::frame::{Frame, Middle, Naming, Place};
+use crate::mark::Mark;
+use crate::operand::{Binder, Operand};
+use crate::start::{Leaf, Opening, Statement};
+use std::alloc::{AllocError, Global};
+use vt_lex::{Span, Word};
+use vt_syntax::{Expr, ExprForm};
+
+fn word_at(alloc: Global, text: &str, at: Span) -> Result<Word, AllocError>
+    requires { IsSpanIn text.now at }
+    ensures { IfOk result (λ word. word ≡ word_at text.now at) }
+{
+    let word = &text[at.start as usize..at.end as usize];
+    Ok(Word::new(String::from_str(alloc, word)?))
+}
+
+// The name of a dimension, behind the at sign.
+fn dim_at(alloc: Global, text: &str, at: Span) -> Result<Word, AllocError>
+    requires span { IsSpanIn text.now at }
+    requires sign { slice_index text.now at.start ≡ 64 }
+    ensures { IfOk result (λ word. word ≡ dim_at text.now at) }
+{
+    let word = &text[at.start as usize + 1..at.end as usize];
+    Ok(Word::new(String::from_str(alloc, word)?))
+}
+
+/// The name that is bound here.
+pub fn binder_at(alloc: Global, text: &str, at: Span) -> Result<Binder, AllocError>
+    requires { IsSpanIn text.now at }
+    ensures { IfOk result (λ binder. binder ≡ binder_at text.now at) }
+{
+    let name = word_at(alloc, text, at)?;
+    Ok(Binder { name, span: at })
+}
+
+/// The dimension that is named here.
+pub fn dim_binder_at(alloc: Global, text: &str, at: Span) -> Result<Binder, AllocError>
+    requires span { IsSpanIn text.now at }
+    requires sign { slice_index text.now at.start ≡ 64 }
+    ensures { IfOk result (λ binder. binder ≡ dim_binder_at text.now at) }
+{
+    let name = dim_at(alloc, text, at)?;
+    Ok(Binder { name, span: at })
+}
+
+/// The expression of one token.
+pub fn leaf_at(alloc: Global, text: &str, leaf: Leaf, at: Span) -> Result<Operand, AllocError>
+    requires { IsSpanIn text.now at }
+    ensures { IfOk result (λ operand. operand ≡ leaf_at text.now leaf at) }
+{
+    match leaf {
+        Leaf::Number(value) => Ok(leaf_of(ExprForm::Number(value), at)),
+        Leaf::Quoted => Ok(leaf_of(ExprForm::Quoted, at)),
+        Leaf::Truth(value) => Ok(leaf_of(ExprForm::Truth(value), at)),
+        Leaf::Name => {
+            let name = word_at(alloc, text, at)?;
+            Ok(leaf_of(ExprForm::Name(name), at))
+        }
+        Leaf::Hole => Ok(leaf_of(ExprForm::Hole, at)),
+    }
+}
+
+fn leaf_of(form: ExprForm, at: Span) -> Operand
+    ensures { result ≡ operand_of (part at form 1) }
+{
+    Operand {
+        expr: Expr { span: at, form },
+        span: at,
+        depth: 1,
+    }
+}
+
+/// The construct that an opening token begins.
+pub fn opened(alloc: Global, text: &str, opening: Opening, at: Span) -> Result<Frame, AllocError>
+    requires span { IsSpanIn text.now at }
+    requires sign { opening ≡ Opening.Choice → slice_index text.now at.start ≡ 64 }
+    ensures { IfOk result (λ frame. frame ≡ opened text.now opening at) }
+{
+    match opening {
+        Opening::Paren => Ok(Frame::Paren(at)),
+        Opening::Square => Ok(Frame::Square(at)),
+        Opening::Choice => {
+            let dim = dim_binder_at(alloc, text, at)?;
+            Ok(Frame::Middle(Middle::ChoiceLeft { dim }))
+        }
+    }
+}
+
+/// What comes after an opening token.
+pub fn opened_place(opening: Opening) -> Place
+    ensures { result ≡ opened_place opening }
+{
+    match opening {
+        Opening::Paren => Place::Wanted,
+        Opening::Square => Place::Wanted,
+        Opening::Choice => Place::Awaits(Mark::BraceOpen),
+    }
+}
+
+/// The construct that the first word of a form begins.
+pub fn stated(statement: Statement, from: Span) -> Frame
+    ensures { result ≡ stated statement from }
+{
+    match statement {
+        Statement::Fun => Frame::Naming(Naming::FunName { from }),
+        Statement::Let => Frame::Naming(Naming::LetName {
+            from,
+            recursive: false,
+        }),
+        Statement::If => Frame::Middle(Middle::Condition { from }),
+        Statement::Match => Frame::Middle(Middle::Matched { from }),
+    }
+}
