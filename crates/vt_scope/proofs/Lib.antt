@@ -1,0 +1,10 @@
+pub mod ScopeLists
+pub mod EventLists
+pub mod Giving
+pub mod Forms
+pub mod Dimensions
+pub mod Programs
+pub mod Selecting
+pub mod Closing
+pub mod Numbering
+pub mod OneCore

@@ -1,0 +1,245 @@
+//! The core of an expression: a walk from left to right, which is the order of the text and, but for
+//! the nodes above what was walked over, that of the numbers.
+ghost use Rattle.std.specs.Prelude.{◌≡◌, MatchResult};
+ghost use Rattle.vt_syntax.specs.CoreTrees.{core};
+ghost use Rattle.vt_scope.specs.Cores.{bound_form, op_id, left_span};
+ghost use Rattle.vt_scope.specs.Walking.{Answers, AnswersUnder, AnswersBound, AnswersApplied, AnswersArm, AnswersItems};
+
+use crate::ScopeFault;
+use crate::scope::{DEFINED, PARAMETER};
+use crate::walk::{OPERATOR, Walk};
+use std::alloc::Global;
+use vt_dec::NodeId;
+use vt_lex::{Span, Word};
+use vt_syntax::{Core, Expr, ExprForm, Exprs, Form, Lit, Op};
+use vt_type::{ConstId, Constants};
+
+/// The core of an expression, or the first place in it that is refused.
+#[cycle(expressions)]
+pub fn expression(
+    expr: &Expr,
+    alloc: Global,
+    constants: &Constants,
+    walk: &mut Walk,
+) -> Result<Core, ScopeFault>
+    ensures { Answers constants.now expr.now walk.old walk.new result }
+{
+    let at = expr.span;
+    match &expr.form {
+        ExprForm::Number(value) => walk.literal(at, Lit::Number(*value)),
+        ExprForm::Quoted => walk.literal(at, Lit::Quoted),
+        ExprForm::Truth(value) => walk.literal(at, Lit::Truth(*value)),
+        ExprForm::Name(name) => walk.name(constants, at, name),
+        ExprForm::Hole => walk.part(at, Form::Hole),
+        ExprForm::Fun(name, _, body) => {
+            let body = under(body.get(), alloc, constants, walk, name, PARAMETER)?;
+            walk.function(alloc, at, body)
+        }
+        ExprForm::Let {
+            recursive,
+            name,
+            name_span,
+            bound,
+            body,
+        } => {
+            let bound = bound_part(bound.get(), alloc, constants, walk, name, *recursive)?;
+            let node = walk.number()?;
+            let body = under(body.get(), alloc, constants, walk, name, DEFINED)?;
+            let_core(alloc, node, at, *recursive, name, *name_span, bound, body)
+        }
+        ExprForm::If(condition, then, otherwise) => {
+            let cond = walk.implied(at, ConstId::COND)?;
+            let cond = argument(condition.get(), alloc, constants, walk, at, cond)?;
+            let cond = argument(then.get(), alloc, constants, walk, at, cond)?;
+            argument(otherwise.get(), alloc, constants, walk, at, cond)
+        }
+        ExprForm::Match {
+            list,
+            empty,
+            first,
+            first_span,
+            rest,
+            rest_span: _,
+            cell,
+        } => {
+            let split = walk.implied(at, ConstId::SPLIT)?;
+            let split = argument(list.get(), alloc, constants, walk, at, split)?;
+            let split = argument(empty.get(), alloc, constants, walk, at, split)?;
+            let here = Span {
+                start: first_span.start,
+                end: at.end,
+            };
+            let cell = arm(cell.get(), alloc, constants, walk, here, first, rest)?;
+            walk.applied(alloc, at, split, cell)
+        }
+        ExprForm::Op(op, op_span, left, right) => {
+            let sign = walk.part(*op_span, Form::Const(constant_of(*op)))?;
+            let node = sign.node;
+            let half = argument(left.get(), alloc, constants, walk, at, sign)?;
+            walk.note(*op_span, OPERATOR, node)?;
+            argument(right.get(), alloc, constants, walk, at, half)
+        }
+        ExprForm::Apply(function, operand) => {
+            let function = expression(function.get(), alloc, constants, walk)?;
+            argument(operand.get(), alloc, constants, walk, at, function)
+        }
+        ExprForm::Pair(left, right) => {
+            let pair = walk.implied(at, ConstId::PAIR)?;
+            let pair = argument(left.get(), alloc, constants, walk, at, pair)?;
+            argument(right.get(), alloc, constants, walk, at, pair)
+        }
+        ExprForm::List(items) => list(items, alloc, constants, walk, at, at),
+        ExprForm::Choice(dim, dim_span, left, right) => {
+            let dim = walk.dimension(dim, *dim_span)?;
+            let left = expression(left.get(), alloc, constants, walk)?;
+            let right = expression(right.get(), alloc, constants, walk)?;
+            walk.choice(alloc, at, dim, left, right)
+        }
+    }
+}
+
+// An expression under one binder more.
+#[cycle(expressions)]
+fn under(
+    body: &Expr,
+    alloc: Global,
+    constants: &Constants,
+    walk: &mut Walk,
+    name: &Word,
+    class: u8,
+) -> Result<Core, ScopeFault>
+    ensures { AnswersUnder constants.now (record { name = name.now; class = class }) body.now walk.old walk.new result }
+{
+    walk.scope.push(alloc, name, class)?;
+    let core = expression(body, alloc, constants, walk)?;
+    walk.scope.pop();
+    Ok(core)
+}
+
+// A function applied to an expression.
+#[cycle(expressions)]
+fn argument(
+    operand: &Expr,
+    alloc: Global,
+    constants: &Constants,
+    walk: &mut Walk,
+    at: Span,
+    function: Core,
+) -> Result<Core, ScopeFault>
+    ensures { AnswersApplied constants.now at function operand.now walk.old walk.new result }
+{
+    let operand = expression(operand, alloc, constants, walk)?;
+    walk.applied(alloc, at, function, operand)
+}
+
+// What is bound to a name, which stands under that name where the binding is recursive.
+#[cycle(expressions)]
+pub fn bound_part(
+    bound: &Expr,
+    alloc: Global,
+    constants: &Constants,
+    walk: &mut Walk,
+    name: &Word,
+    recursive: bool,
+) -> Result<Core, ScopeFault>
+    ensures { AnswersBound constants.now recursive name.now bound.now walk.old walk.new result }
+{
+    if recursive {
+        under(bound, alloc, constants, walk, name, DEFINED)
+    } else {
+        expression(bound, alloc, constants, walk)
+    }
+}
+
+// The arm of a `match` for a first element and the rest.
+#[cycle(expressions)]
+fn arm(
+    cell: &Expr,
+    alloc: Global,
+    constants: &Constants,
+    walk: &mut Walk,
+    here: Span,
+    first: &Word,
+    rest: &Word,
+) -> Result<Core, ScopeFault>
+    ensures { AnswersArm constants.now first.now rest.now here cell.now walk.old walk.new result }
+{
+    walk.scope.push(alloc, first, PARAMETER)?;
+    let body = under(cell, alloc, constants, walk, rest, PARAMETER)?;
+    walk.scope.pop();
+    let of_rest = walk.function(alloc, here, body)?;
+    walk.function(alloc, here, of_rest)
+}
+
+// What is left of a list that is written out, from the span `here` on.
+#[cycle(expressions)]
+fn list(
+    items: &Exprs,
+    alloc: Global,
+    constants: &Constants,
+    walk: &mut Walk,
+    whole: Span,
+    here: Span,
+) -> Result<Core, ScopeFault>
+    ensures { AnswersItems constants.now whole here items.now walk.old walk.new result }
+{
+    match items {
+        Exprs::Nil => walk.implied(here, ConstId::NIL),
+        Exprs::More(first, rest) => {
+            let cons = walk.implied(whole, ConstId::CONS)?;
+            let cons = argument(first.get(), alloc, constants, walk, here, cons)?;
+            let left = left_of(rest.get(), whole);
+            let rest = list(rest.get(), alloc, constants, walk, whole, left)?;
+            walk.applied(alloc, here, cons, rest)
+        }
+    }
+}
+
+fn let_core(
+    alloc: Global,
+    node: NodeId,
+    at: Span,
+    recursive: bool,
+    name: &Word,
+    name_span: Span,
+    bound: Core,
+    body: Core,
+) -> Result<Core, ScopeFault>
+    ensures { MatchResult result (λ c. c ≡ core node at (bound_form recursive name.now name_span bound body)) (λ fault. fault ≡ ScopeFault.Memory) }
+{
+    if recursive {
+        let name = name.copied(alloc)?;
+        return Ok(Core::let_rec(alloc, node, at, name, name_span, bound, body)?);
+    }
+    Ok(Core::let_in(alloc, node, at, bound, body)?)
+}
+
+// The span from the first of these items to the end of the list, or of its closing bracket.
+fn left_of(items: &Exprs, whole: Span) -> Span
+    ensures { result ≡ left_span whole items.now }
+{
+    let start = match items {
+        Exprs::Nil => whole.end.saturating_sub(1),
+        Exprs::More(first, _) => first.get().span.start,
+    };
+    Span {
+        start,
+        end: whole.end,
+    }
+}
+
+fn constant_of(op: Op) -> ConstId
+    ensures { result ≡ op_id op }
+{
+    match op {
+        Op::Add => ConstId::ADD,
+        Op::Sub => ConstId::SUBTRACT,
+        Op::Mul => ConstId::MULTIPLY,
+        Op::Cat => ConstId::JOIN,
+        Op::Equal => ConstId::EQUAL,
+        Op::Less => ConstId::LESS,
+        Op::Cons => ConstId::PREPEND,
+        Op::And => ConstId::AND,
+        Op::Or => ConstId::OR,
+    }
+}
