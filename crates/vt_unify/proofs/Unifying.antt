@@ -14,7 +14,7 @@ use Rattle.vt_store.specs.Stores.{Cells, cell_count, ends_at, IsBound}
 use Rattle.vt_store.specs.Writes.{IsOf}
 use Rattle.vt_unify.specs.Equations.{Equation, HoldsAt, IsPosed, IsInside}
 use Rattle.vt_unify.specs.Turns.{Turns, left_at, IsBindable, IsWorked}
-use Rattle.vt_unify.specs.Unified.{AreEqualSolutions, IsUnified}
+use Rattle.vt_unify.specs.Unified.{AreEqualSolutions, IsEither, IsUnified}
 use Rattle.vt_unify.proofs.Admitted.{Admits-or, IsOf-in}
 use Rattle.vt_unify.proofs.Solving.{bound_solves}
 use Rattle.vt_unify.proofs.Holding.{All-parts, Turns-then, alive_dead}
@@ -188,6 +188,14 @@ module _ (N node : ℕ) (region : Region) (x y : ℕ) (old : Cells) (before : Fa
         absurd (none some.0 wanted.0 (wanted.1 admits))
     failed d admits alive none (inr dies) = dies.now
 
+    either : (d : List Side) → Admits region d → fate_at before d ≡ Alive → Turns node (fate_at before d) (fate_at after d) (wanted_at region x y d old) (left_at d new []) → IsEither x y node d old new (fate_at after d)
+    either d admits alive (inl stays) =
+        subst (IsEither x y node d old new) (sym (stays.fate ∙ alive)) (λ t. (
+          (λ h. let wanted = (stays.same alive t).0 (h, All-nil (HoldsAt d t)) in (wanted.0, wanted.1 admits)),
+          (λ h. ((stays.same alive t).1 (h.0, λ own. h.1)).0),
+        ))
+    either d admits alive (inr dies) = subst (IsEither x y node d old new) (sym dies.now) (refl, λ s solves equal. dies.none s (solves, λ own. equal))
+
     dead-fate : (d : List Side) → (fate_at before d ≡ Alive → ⊥) → Turns node (fate_at before d) (fate_at after d) (wanted_at region x y d old) (left_at d new []) → fate_at after d ≡ fate_at before d
     dead-fate d dead (inl stays) = stays.fate
     dead-fate d dead (inr dies) = absurd (dead dies.was)
@@ -201,6 +209,7 @@ module _ (N node : ℕ) (region : Region) (x y : ℕ) (old : Cells) (before : Fa
     underway_last = record {
       solved = λ d admits alive s solves equal. solved d admits alive s solves equal (so_far.turned d (of_region d admits));
       failed = λ d admits alive none. failed d admits alive none (so_far.turned d (of_region d admits));
+      either = λ d admits alive. either d admits alive (so_far.turned d (of_region d admits));
       dead = λ d admits dead. (dead-fate d dead (so_far.turned d (of_region d admits)), solutions-kept d (of_region d admits) (λ own alive. dead alive));
       others = λ d of out. (other-fate d of out (so_far.turned d of), solutions-kept d of (λ admits alive. out admits));
       cells = so_far.count;
