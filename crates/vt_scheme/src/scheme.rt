@@ -1,0 +1,51 @@
+ghost use Rattle.std.specs.Prelude.{◌≡◌, ◌<◌, IfOk, OnErr};
+ghost use Rattle.std.specs.List.{All};
+ghost use Rattle.vt_store.specs.Stores.{cell_count, IsUnchanged};
+ghost use Rattle.vt_scheme.specs.Schemes.{AreCells, IsFrozen, IsInstanceOf};
+
+use std::alloc::{AllocError, Global};
+use vt_store::{CellId, CellList, Store};
+
+/// Cells of their own, some of which, the monos, stand for cells that all copies share, and one of
+/// which, the root, stands for the type that is copied.
+#[derive(Debug, Drop)]
+pub struct Scheme<const N: usize> {
+    pub cells: Store<N>,
+    pub monos: CellList,
+    pub root: CellId,
+}
+
+/// A copy of a scheme: the copies of its monos, which are still to be made equal to the cells that
+/// they stand for, and that of its root.
+#[derive(Debug, Drop)]
+pub struct Copied {
+    pub monos: CellList,
+    pub root: CellId,
+}
+
+/// The part of a store to which the monos and the root lead, as a scheme.
+pub fn freeze<const N: usize>(
+    alloc: Global,
+    store: &Store<N>,
+    monos: &[CellId],
+    root: CellId,
+) -> Result<Scheme<N>, AllocError>
+    requires monos { All (λ cell. cell < cell_count store.now) monos.now }
+    requires root { root < cell_count store.now }
+    ensures frozen { IfOk result (IsFrozen N store.now monos.now root) }
+{
+    Err(AllocError)
+}
+
+/// Copies a scheme's cells after those of a store. On an error the store's cells are as before.
+pub fn instance<const N: usize>(
+    store: &mut Store<N>,
+    scheme: &Scheme<N>,
+) -> Result<Copied, AllocError>
+    requires space { scheme.now.cells.space ≡ store.old.space }
+    requires cells { AreCells scheme.now }
+    ensures ok { IfOk result (λ copied. IsInstanceOf scheme.now copied store.old store.new) }
+    ensures err { OnErr result (IsUnchanged store.old store.new) }
+{
+    Err(AllocError)
+}
