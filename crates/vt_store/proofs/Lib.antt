@@ -1,6 +1,7 @@
 pub mod Cells
 pub mod Acyclic
 pub mod MostGeneral
+pub mod Widening
 pub mod Slices
 pub mod Links
 pub mod Writing

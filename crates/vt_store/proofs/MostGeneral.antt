@@ -9,7 +9,7 @@ use Rattle.vt_store.specs.Laws.{IsMostGeneral}
 use Rattle.vt_store.proofs.Cells.{All-head, All-tail, All-both, EachCell-each, map-each, EndsWithin-within}
 
 -- the type of a cell by the types of those that it names; an open cell is a variable of its own
-abbrev type_of : (ℕ → Plain) → ℕ → CellEnd → Plain
+abbrev pub type_of : (ℕ → Plain) → ℕ → CellEnd → Plain
 type_of s cell Free = Var (cell ∷ [])
 type_of s cell (Same other) = s other
 type_of s cell (Made head kids) = Con head (plain_kids (map s kids))
@@ -19,12 +19,12 @@ abbrev pub solution : (ℕ → CellEnd) → ℕ → ℕ → Plain
 solution e zero cell = Var (cell ∷ [])
 solution e (suc most) cell = type_of (solution e most) cell (e cell)
 
-type_of-same : (s t : ℕ → Plain) (P : ℕ → Type 0) (cell : ℕ) (end : CellEnd) → ((below : ℕ) → P below → s below ≡ t below) → EachCell P end → type_of s cell end ≡ type_of t cell end
+pub type_of-same : (s t : ℕ → Plain) (P : ℕ → Type 0) (cell : ℕ) (end : CellEnd) → ((below : ℕ) → P below → s below ≡ t below) → EachCell P end → type_of s cell end ≡ type_of t cell end
 type_of-same s t P cell Free same h = refl
 type_of-same s t P cell (Same other) same h = same other h
 type_of-same s t P cell (Made head kids) same h = ap (λ types. Con head (plain_kids types)) (map-each s t P kids same h)
 
-EachCell-both : (P Q : ℕ → Type 0) (end : CellEnd) → EachCell P end → EachCell Q end → EachCell (λ cell. P cell × Q cell) end
+pub EachCell-both : (P Q : ℕ → Type 0) (end : CellEnd) → EachCell P end → EachCell Q end → EachCell (λ cell. P cell × Q cell) end
 EachCell-both P Q Free p q = tt
 EachCell-both P Q (Same cell) p q = (p, q)
 EachCell-both P Q (Made head kids) p q = All-both P Q kids p q
@@ -51,7 +51,7 @@ AreWellFormed-plain_kids s [] h = tt
 AreWellFormed-plain_kids s (kid ∷ kids) h =
     (All-head (λ own. IsWellFormed (s own)) kid kids h, AreWellFormed-plain_kids s kids (All-tail (λ own. IsWellFormed (s own)) kid kids h))
 
-type_of-well_formed : (s : ℕ → Plain) (cell : ℕ) (end : CellEnd) → HasArity end → EachCell (λ below. IsWellFormed (s below)) end → IsWellFormed (type_of s cell end)
+pub type_of-well_formed : (s : ℕ → Plain) (cell : ℕ) (end : CellEnd) → HasArity end → EachCell (λ below. IsWellFormed (s below)) end → IsWellFormed (type_of s cell end)
 type_of-well_formed s cell Free arity h = tt
 type_of-well_formed s cell (Same other) arity h = h
 type_of-well_formed s cell (Made head kids) arity h =
@@ -63,7 +63,7 @@ solution-well_formed n e arities (suc most) cell h =
     type_of-well_formed (solution e most) cell (e cell) (arities cell h.0)
     (EachCell-each (EndsWithin n e most) (λ below. IsWellFormed (solution e most below)) (e cell) (λ below. solution-well_formed n e arities most below) h.1)
 
-type_of-fits : (s : ℕ → Plain) (cell : ℕ) (end : CellEnd) → Fits s (type_of s cell end) end
+pub type_of-fits : (s : ℕ → Plain) (cell : ℕ) (end : CellEnd) → Fits s (type_of s cell end) end
 type_of-fits s cell Free = tt
 type_of-fits s cell (Same other) = refl
 type_of-fits s cell (Made head kids) = refl

@@ -51,6 +51,13 @@ raised by (Link cell) = Link (cell + by)
 raised by (Con head kids) = Con head (map (λ kid. kid + by) kids)
 raised by (choice dim left right) = choice dim (raised by left) (raised by right)
 
+-- the diagram with every cell replaced
+abbrev pub mapped : (ℕ → ℕ) → Diagram → Diagram
+mapped by Open = Open
+mapped by (Link cell) = Link (by cell)
+mapped by (Con head kids) = Con head (map by kids)
+mapped by (choice dim left right) = choice dim (mapped by left) (mapped by right)
+
 -- the choices that a decision comes by
 abbrev pub Passes : Diagram → List Side → ℕ → Type 0
 Passes Open decision dim = ⊥

@@ -1,4 +1,4 @@
-use Rattle.std.specs.Prelude.{◌≡◌, ℕ, zero, suc, ◌<◌, List, length, Contains}
+use Rattle.std.specs.Prelude.{◌≡◌, ℕ, zero, suc, ◌<◌, List, length, map, Contains}
 use Rattle.std.specs.List.{All}
 use Rattle.vt_type.specs.declared.head.Head.{Head}
 use Rattle.vt_type.specs.Plain.{arity}
@@ -16,6 +16,12 @@ abbrev pub EachCell : (ℕ → Type 0) → CellEnd → Type 0
 EachCell P Free = Unit {0}
 EachCell P (Same cell) = P cell
 EachCell P (Made head kids) = All P kids
+
+-- the end with every cell replaced
+abbrev pub mapped_end : (ℕ → ℕ) → CellEnd → CellEnd
+mapped_end by Free = Free
+mapped_end by (Same cell) = Same (by cell)
+mapped_end by (Made head kids) = Made head (map by kids)
 
 -- every way down from a cell has at most `most` cells, each of them one of the n
 abbrev pub EndsWithin : (n : ℕ) (e : ℕ → CellEnd) (most : ℕ) → ℕ → Type 0

@@ -3,6 +3,7 @@ use Rattle.vt_type.specs.declared.plain.Plain.{Plain}
 use Rattle.vt_type.specs.Plain.{IsWellFormed, substituted}
 use Rattle.vt_store.specs.Ends.{CellEnd, IsAcyclic, AreArities}
 use Rattle.vt_store.specs.Solutions.{Solves}
+use Rattle.vt_store.specs.Parts.{IsPartOf}
 
 -- a solution of which each solution is an instance, by one substitution for all cells
 pub record IsMostGeneral (n : ℕ) (e : ℕ → CellEnd) (s other : ℕ → Plain) : Type 0 where
@@ -15,3 +16,19 @@ abbrev pub HaveMostGeneral : Type 0
 HaveMostGeneral =
     (n : ℕ) (e : ℕ → CellEnd) → IsAcyclic n e → AreArities n e
     → (s : ℕ → Plain) × Solves n e s × ((other : ℕ → Plain) → Solves n e other → IsMostGeneral n e s other)
+
+-- a solution that gives the cells of a part the same types as another one, under their numbers in the whole
+pub record Widens (count : ℕ) (all : ℕ) (whole : ℕ → CellEnd) (origin : ℕ → ℕ) (s : ℕ → Plain) : Type 0 where
+  pub wide : ℕ → Plain
+  pub solves : Solves all whole wide
+  pub same : (cell : ℕ) → cell < count → wide (origin cell) ≡ s cell
+
+-- The solutions of a part are what the solutions of the whole give to its cells.
+pub record IsSolvedAlike (count : ℕ) (part : ℕ → CellEnd) (all : ℕ) (whole : ℕ → CellEnd) (origin : ℕ → ℕ) : Type 0 where
+  pub narrows : (s : ℕ → Plain) → Solves all whole s → Solves count part (λ cell. s (origin cell))
+  pub widens : (s : ℕ → Plain) → Solves count part s → Widens count all whole origin s
+
+abbrev pub AreSolvedAlike : Type 0
+AreSolvedAlike =
+    (count all : ℕ) (part whole : ℕ → CellEnd) (origin : ℕ → ℕ) → IsPartOf count part all whole origin → IsAcyclic all whole → AreArities all whole
+    → IsSolvedAlike count part all whole origin

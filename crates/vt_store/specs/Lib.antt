@@ -1,6 +1,5 @@
 pub mod Ends
 pub mod Solutions
-pub mod Laws
 pub mod Branches
 pub mod Writes
 pub mod Fates
@@ -8,3 +7,5 @@ pub mod Patterns
 pub mod Diagrams
 pub mod Views
 pub mod Stores
+pub mod Parts
+pub mod Laws

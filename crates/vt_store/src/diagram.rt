@@ -6,8 +6,10 @@ ghost use Rattle.vt_store.specs.Branches.{IsLeastBranch};
 ghost use Rattle.vt_store.specs.Writes.{IsWrite, IsBefore, IsGapTo};
 ghost use Rattle.vt_store.specs.Ends.{CellEnd, Same};
 ghost use Rattle.vt_store.specs.Diagrams.{choice, end_in, IsOrdered, IsBehind, HasCells, HasRoom, Passes, raised, AreOneLeaf, IsJoined};
+ghost use Rattle.vt_store.specs.Parts.{IsMoved};
 ghost use Rattle.vt_store.specs.Views.{seen};
 
+use crate::found::Found;
 use crate::walk::{after, next_before, side_in};
 use crate::{CellId, CellList, End};
 use sqlite_items::Boxed;
@@ -97,6 +99,27 @@ impl Diagram {
                 let dim = *dim;
                 let left = left.get().raised(alloc, by)?;
                 let right = right.get().raised(alloc, by)?;
+                Diagram::choice(alloc, dim, left, right)
+            }
+        }
+    }
+
+    /// The same diagram, with cells written by their places among those that were found. Cells that
+    /// it names for the first time are found now.
+    pub(crate) fn moved(&self, alloc: Global, found: &mut Found) -> Result<Diagram, AllocError>
+        ensures { IfOk result (IsMoved found.old found.new self.now) }
+    {
+        match self {
+            Diagram::Open => Ok(Diagram::Open),
+            Diagram::Link(cell) => Ok(Diagram::Link(found.enter(*cell)?)),
+            Diagram::Con(head, kids) => {
+                let head = *head;
+                Ok(Diagram::Con(head, found.enter_all(alloc, kids.as_slice())?))
+            }
+            Diagram::Choice(dim, left, right) => {
+                let dim = *dim;
+                let left = left.get().moved(alloc, found)?;
+                let right = right.get().moved(alloc, found)?;
                 Diagram::choice(alloc, dim, left, right)
             }
         }

@@ -1,7 +1,12 @@
 //! Facts about the definitions alone, each the contract of a function with no body.
-ghost use Rattle.vt_store.specs.Laws.{HaveMostGeneral};
+ghost use Rattle.vt_store.specs.Laws.{HaveMostGeneral, AreSolvedAlike};
 
 /// Cells of which none contains itself have a solution, and all solutions are instances of one.
 pub fn most_general_solution()
     ensures { HaveMostGeneral }
+{}
+
+/// The solutions of a part are what the solutions of the whole give to its cells.
+pub fn solutions_of_parts()
+    ensures { AreSolvedAlike }
 {}

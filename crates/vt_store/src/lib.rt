@@ -10,6 +10,7 @@
 mod cell_list;
 mod diagram;
 mod fates;
+mod found;
 mod ids;
 pub mod laws;
 mod pattern;
@@ -22,5 +23,5 @@ mod walk;
 pub use cell_list::CellList;
 pub use ids::CellId;
 pub use pattern::Pattern;
-pub use store::Store;
+pub use store::{Part, Store};
 pub use views::{End, Look};

@@ -1,15 +1,17 @@
-ghost use Rattle.std.specs.Prelude.{◌≡◌, ◌*◌, ◌+◌, ◌≤◌, ◌<◌, ℕ, List, [], ◌∷◌, ◌++◌, length, map, None, IfSome, OnOk, OnErr, IfOk, IsOk, vec_len, vec_capacity};
+ghost use Rattle.std.specs.Prelude.{◌≡◌, ◌*◌, ◌+◌, ◌≤◌, ◌<◌, ◌^◌, ℕ, List, [], ◌∷◌, ◌++◌, length, map, None, IfSome, OnOk, OnErr, IfOk, IsOk, vec_len, vec_capacity};
 ghost use Rattle.std.specs.List.{All};
 ghost use Rattle.vt_dec.specs.declared.side.Side.{Side};
 ghost use Rattle.vt_dec.specs.Decisions.{Admits, IsSideOf};
 ghost use Rattle.vt_type.specs.Plain.{arity};
 ghost use Rattle.vt_store.specs.Ends.{IsAcyclic, AreArities, Reaches, Free, Made};
 ghost use Rattle.vt_store.specs.Writes.{IsOf};
-ghost use Rattle.vt_store.specs.Diagrams.{raised, HasRoom};
+ghost use Rattle.vt_store.specs.Diagrams.{raised, HasCells, HasRoom};
 ghost use Rattle.vt_store.specs.Views.{seen, LooksAs};
+ghost use Rattle.vt_store.specs.Parts.{IsPart, AreTaken};
 ghost use Rattle.vt_store.specs.Stores.{ends_at, cell_count, IsUnchanged, Adds, IsBound, IsAppended, one_of, IsCellBranch, IsOneEnd};
 
 use crate::diagram::Diagram;
+use crate::found::Found;
 use crate::{CellId, CellList, End, Look};
 use std::alloc::{AllocError, Global};
 use std::marker::Model;
@@ -22,6 +24,15 @@ pub struct Store<const N: usize> {
     cells: Vec<Diagram>,
     alloc: Global,
     space: Space,
+}
+
+/// Cells of a store that were taken out of it, as a store of their own: those that were asked for, and
+/// all to which they lead.
+#[derive(Debug, Drop)]
+pub struct Part<const N: usize> {
+    pub store: Store<N>,
+    pub cells: CellList,
+    pub root: CellId,
 }
 
 impl<const N: usize> Model for Store<N> {
@@ -58,6 +69,14 @@ impl<const N: usize> Store<N> {
         ensures arities { (decision : List Side) → IsOf N self.now.space decision → AreArities (cell_count self.now) (ends_at self.now decision) }
     {
         self.space
+    }
+
+    /// How many cells there are.
+    pub fn count(&self) -> usize
+        ensures count { result ≡ cell_count self.now }
+        ensures fits { 2 * cell_count self.now < 2 ^ 64 }
+    {
+        self.cells.len()
     }
 
     /// The allocator that the store keeps.
@@ -156,6 +175,30 @@ impl<const N: usize> Store<N> {
         Ok(by)
     }
 
+    /// The cells to which some cells and one more lead at whatever decision, as a store of their own.
+    /// It takes time by what is taken out, and not by how many cells there are.
+    pub fn part(
+        &self,
+        alloc: Global,
+        cells: &[CellId],
+        root: CellId,
+    ) -> Result<Part<N>, AllocError>
+        requires cells { All (λ cell. cell < cell_count self.now) cells.now }
+        requires root { root < cell_count self.now }
+        ensures part { IfOk result (IsPart self.now cells.now root) }
+    {
+        let mut found = Found::new(alloc);
+        let cells = found.enter_all(alloc, cells)?;
+        let root = found.enter(root)?;
+        let diagrams = taken(alloc, &self.cells, &mut found)?;
+        let store = Store {
+            cells: diagrams,
+            alloc,
+            space: self.space,
+        };
+        Ok(Part { store, cells, root })
+    }
+
     /// What a cell is bound to at a decision, once links are followed.
     pub fn look(&self, cell: CellId, decision: &Decision<N>) -> Look<'_>
         requires cell { cell < cell_count self.now }
@@ -208,6 +251,24 @@ fn raised_copies(alloc: Global, diagrams: &[Diagram], by: usize) -> Result<Vec<D
     let mut copies = Vec::with_capacity(alloc, diagrams.len())?;
     for diagram in diagrams {
         copies.push(diagram.raised(alloc, by)?)?;
+    }
+    Ok(copies)
+}
+
+/// The diagrams of the cells that were found, and of all to which they lead, which are found on the way.
+fn taken(
+    alloc: Global,
+    diagrams: &[Diagram],
+    found: &mut Found,
+) -> Result<Vec<Diagram>, AllocError>
+    requires cells { All (HasCells (length diagrams.now)) diagrams.now }
+    requires within { All (λ cell. cell < length diagrams.now) found.old }
+    ensures { IfOk result (λ copies. AreTaken diagrams.now found.old found.new copies.items) }
+{
+    let mut copies = Vec::new(alloc);
+    while let Some(cell) = found.get(copies.len()) {
+        let copy = diagrams[cell.0].moved(alloc, found)?;
+        copies.push(copy)?;
     }
     Ok(copies)
 }
