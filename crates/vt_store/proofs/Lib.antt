@@ -2,6 +2,7 @@ pub mod Cells
 pub mod Acyclic
 pub mod MostGeneral
 pub mod Widening
+pub mod Finding
 pub mod Slices
 pub mod Links
 pub mod Writing
@@ -10,3 +11,4 @@ pub mod FateShapes
 pub mod DiagramShapes
 pub mod StoreSteps
 pub mod Appending
+pub mod Parting

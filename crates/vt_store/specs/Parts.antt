@@ -53,12 +53,12 @@ pub record AreMoved (old new cells places : List ℕ) : Type 0 where
   pub placed : All (λ place. place < length new) places
   pub within : (count : ℕ) → All (λ cell. cell < count) cells → All (λ cell. cell < count) old → All (λ cell. cell < count) new
 
--- a diagram is written by the places of its cells among those that were found
-pub record IsMoved (old new : List ℕ) (from to : Diagram) : Type 0 where
+-- a diagram of cells below a number is written by their places among those that were found
+pub record IsMoved (count : ℕ) (old new : List ℕ) (from to : Diagram) : Type 0 where
   pub later : IsLater old new
   pub same : mapped (slice_index new) to ≡ from
-  pub placed : (count : ℕ) → HasCells count from → HasCells (length new) to
-  pub within : (count : ℕ) → HasCells count from → All (λ cell. cell < count) old → All (λ cell. cell < count) new
+  pub placed : HasCells (length new) to
+  pub within : All (λ cell. cell < count) old → All (λ cell. cell < count) new
 
 -- the diagrams of some of the cells that were found, each of one place
 pub record AreCopied (diagrams : List Diagram) (found : List ℕ) (copies : List Diagram) : Type 0 where

@@ -39,8 +39,8 @@ impl CellList {
         Ok(CellList::new(Vec::from_slice(alloc, self.as_slice())?))
     }
 
-    /// The cells with every number raised.
-    pub(crate) fn raised(&self, alloc: Global, by: usize) -> Result<CellList, AllocError>
+    /// The cells with every number raised, as `Store::append` raises them.
+    pub fn raised(&self, alloc: Global, by: usize) -> Result<CellList, AllocError>
         requires { All (λ cell. cell + by < 2 ^ 64) self.now }
         ensures { IfOk result (λ cells. cells ≡ map (λ cell. cell + by) self.now) }
     {

@@ -107,7 +107,7 @@ impl Diagram {
     /// The same diagram, with cells written by their places among those that were found. Cells that
     /// it names for the first time are found now.
     pub(crate) fn moved(&self, alloc: Global, found: &mut Found) -> Result<Diagram, AllocError>
-        ensures { IfOk result (IsMoved found.old found.new self.now) }
+        ensures { (count : ℕ) → HasCells count self.now → IfOk result (IsMoved count found.old found.new self.now) }
     {
         match self {
             Diagram::Open => Ok(Diagram::Open),

@@ -1,4 +1,4 @@
-ghost use Rattle.std.specs.Prelude.{◌≡◌, ◌<◌, [], length, slice_index, IfOk, IfSome, OnOk};
+ghost use Rattle.std.specs.Prelude.{◌≡◌, ◌<◌, ◌≤◌, [], length, slice_index, IfOk, MatchOption};
 ghost use Rattle.vt_store.specs.Parts.{AreDistinct, AreFew, AreMoved, IsFound};
 
 use crate::{CellId, CellList};
@@ -32,18 +32,11 @@ impl Found {
         }
     }
 
-    pub(crate) fn len(&self) -> usize
-        ensures len { result ≡ length self.now }
-        ensures distinct { AreDistinct self.now }
-        ensures few { AreFew self.now }
-    {
-        self.cells.len()
-    }
-
     /// The cell at a place; none behind the last.
     pub(crate) fn get(&self, place: usize) -> Option<CellId>
-        ensures found { IfSome result (λ cell. (place < length self.now) × (cell ≡ slice_index self.now place)) }
-        ensures none { result ≡ None → length self.now ≤ place }
+        ensures found { MatchOption result (length self.now ≤ place) (λ cell. (place < length self.now) × (cell ≡ slice_index self.now place)) }
+        ensures distinct { AreDistinct self.now }
+        ensures few { AreFew self.now }
     {
         let cell = self.cells.get_index(place)?;
         Some(CellId(*cell))
