@@ -4,6 +4,7 @@ ghost use Rattle.vt_store.specs.Stores.{cell_count, IsUnchanged};
 ghost use Rattle.vt_scheme.specs.Schemes.{AreCells, IsFrozen, IsInstanceOf};
 
 use std::alloc::{AllocError, Global};
+use vt_store::laws::solutions_of_parts;
 use vt_store::{CellId, CellList, Store};
 
 /// Cells of their own, some of which, the monos, stand for cells that all copies share, and one of
@@ -34,7 +35,15 @@ pub fn freeze<const N: usize>(
     requires root { root < cell_count store.now }
     ensures frozen { IfOk result (IsFrozen N store.now monos.now root) }
 {
-    Err(AllocError)
+    // What these two ensure is what makes a solution of the part one of the store.
+    solutions_of_parts();
+    let _space = store.space();
+    let part = store.part(alloc, monos, root)?;
+    Ok(Scheme {
+        cells: part.store,
+        monos: part.cells,
+        root: part.root,
+    })
 }
 
 /// Copies a scheme's cells after those of a store. On an error the store's cells are as before.
@@ -47,5 +56,14 @@ pub fn instance<const N: usize>(
     ensures ok { IfOk result (λ copied. IsInstanceOf scheme.now copied store.old store.new) }
     ensures err { OnErr result (IsUnchanged store.old store.new) }
 {
-    Err(AllocError)
+    // What these ensure of the two stores is that ends name cells of the same store, and that the
+    // sum of their cells fits.
+    let _space = store.space();
+    let _cells = scheme.cells.space();
+    let _count = scheme.cells.count();
+    let by = store.count();
+    let monos = scheme.monos.raised(store.allocator(), by)?;
+    let root = CellId(scheme.root.0 + by);
+    store.append(&scheme.cells)?;
+    Ok(Copied { monos, root })
 }
