@@ -1,4 +1,4 @@
-use Rattle.std.proofs.Common.{◌≡◌, ◌↔◌, ℕ, ◌<◌, List, [], ◌∷◌, length, map, refl, ap, sym, ◌∙◌}
+use Rattle.std.proofs.Common.{◌≡◌, ℕ, ◌<◌, List, [], ◌∷◌, length, map, refl, ap, sym, ◌∙◌}
 use Rattle.std.specs.List.{All}
 use Rattle.std.proofs.lemmas.List.{length-map}
 use Rattle.std.proofs.lemmas.List.Elements.{All-head, All-tail}
@@ -10,7 +10,6 @@ use Rattle.vt_store.specs.Laws.{AreSolvedAlike, IsSolvedAlike}
 use Rattle.vt_store.specs.Parts.{IsPart}
 use Rattle.vt_store.specs.Stores.{Cells, cell_count, ends_at}
 use Rattle.vt_store.specs.Writes.{IsOf}
-use Rattle.vt_scheme.specs.declared.scheme.Scheme.{Scheme}
 use Rattle.vt_scheme.specs.Schemes.{HasTypes, IsFrozen}
 
 -- A part of a store allows what the store gives to the cells that it was made of.

@@ -7,5 +7,7 @@
 #![tactic(auto)]
 
 mod scheme;
+#[cfg(test)]
+mod tests;
 
-pub use scheme::{freeze, instance, Copied, Scheme};
+pub use scheme::{Copied, Scheme, freeze, instance};

@@ -1,5 +1,5 @@
-use Rattle.std.proofs.Common.{◌≡◌, ◌≢◌, ◌⊎◌, ℕ, suc, ◌+◌, ◌<◌, ◌≤◌, List, [], ◌∷◌, ◌++◌, length, map, get_or, Some, slice_get, refl, ap, sym, subst, ◌∙◌, inl, inr, arith, true≢false, nat_eq, true, length-append}
-use Rattle.std.specs.List.{All, IsDistinct, Contains, list_any}
+use Rattle.std.proofs.Common.{◌≡◌, ◌≢◌, ◌⊎◌, ℕ, ◌<◌, ◌≤◌, List, [], ◌∷◌, ◌++◌, length, map, get_or, Some, slice_get, refl, ap, sym, subst, ◌∙◌, inl, inr, arith, true≢false, nat_eq}
+use Rattle.std.specs.List.{All, IsDistinct}
 use Rattle.std.proofs.lemmas.Bool.{cases_eq, eqb-true, eq-eqb}
 use Rattle.std.proofs.lemmas.List.{map-append, length-map, length_push, get_or_append_left, get_or_read}
 use Rattle.std.proofs.lemmas.Option.{slice_get_within, get_or_from_slice_get}
@@ -8,7 +8,6 @@ use Rattle.std.proofs.lemmas.Map.Keys.{apart_from_distinct}
 use Rattle.std.proofs.lemmas.Map.Steps.{length-le_from_distinct_below}
 use Rattle.indexmap.proofs.CallerLemmas.{Contains-list_any}
 use Rattle.vt_type.specs.declared.head.Head.{Head}
-use Rattle.vt_type.specs.Plain.{arity}
 use Rattle.vt_store.specs.declared.diagram.Diagram.{Diagram, Open, Link, Con, Choice}
 use Rattle.vt_store.specs.Diagrams.{choice, HasCells, mapped}
 use Rattle.vt_store.specs.Parts.{AreDistinct, AreFew, IsLater, IsFound, AreMoved, IsMoved, AreCopied}
@@ -162,8 +161,7 @@ pub AreCopied-next : (diagrams : List Diagram) (mid new : List ℕ) (copies late
 AreCopied-next diagrams mid new copies later from copy cell place last room at read pushed cells before moves =
     let within : cell < length diagrams = subst (λ own. own < length diagrams) (sym at) (before.within place 0 room) in
     let here = get_or_read diagrams cell from within read Open in
-    let moved = moves (length diagrams) (subst (HasCells (length diagrams)) (sym here) (cells cell Open within)) in
-    (
+    let moved = moves (length diagrams) (subst (HasCells (length diagrams)) (sym here) (cells cell Open within)) in (
       moved.later,
       subst (AreCopied diagrams new) (sym pushed)
           (AreCopied-one diagrams mid new copies from copy (subst (λ own. own < length mid) last room) (here ∙ ap (λ own. get_or diagrams own Open) (at ∙ ap (λ own. get_or mid own 0) last)) before moved),

@@ -51,8 +51,7 @@ module _ (count all : ℕ) (part whole : ℕ → CellEnd) (origin : ℕ → ℕ)
   EndsWithin-part : (most cell : ℕ) → cell < count → EndsWithin all whole most (origin cell) → EndsWithin count part most cell
   EndsWithin-part zero cell within h = absurd h
   EndsWithin-part (suc most) cell within h =
-      let below = EachCell-mapped (EndsWithin all whole most) origin (part cell) (subst (EachCell (EndsWithin all whole most)) (is.ends cell within) h.1) in
-      (
+      let below = EachCell-mapped (EndsWithin all whole most) origin (part cell) (subst (EachCell (EndsWithin all whole most)) (is.ends cell within) h.1) in (
         within,
         EachCell-each (λ other. (other < count) × EndsWithin all whole most (origin other)) (EndsWithin count part most) (part cell) (λ other both. EndsWithin-part most other both.0 both.1)
             (EachCell-both (λ other. other < count) (λ other. EndsWithin all whole most (origin other)) (part cell) (is.closed cell within) below),

@@ -6,7 +6,7 @@ use Rattle.vt_type.specs.Plain.{IsWellFormed}
 use Rattle.vt_store.specs.Ends.{CellEnd, Free, Same, Made, EachCell, EndsWithin, IsAcyclic, AreArities, mapped_end}
 use Rattle.vt_store.specs.Solutions.{plain_kids, Fits, Solves}
 use Rattle.vt_store.specs.Parts.{IsPartOf}
-use Rattle.vt_store.specs.Laws.{Widens, IsSolvedAlike}
+use Rattle.vt_store.specs.Laws.{Widens}
 use Rattle.vt_store.proofs.Cells.{All-head, All-tail, EachCell-each, EndsWithin-within}
 use Rattle.vt_store.proofs.MostGeneral.{type_of, type_of-same, EachCell-both, type_of-well_formed, type_of-fits}
 

@@ -1,4 +1,4 @@
-use Rattle.std.specs.Prelude.{◌≡◌, ℕ, ◌+◌, ◌<◌, ◌≤◌, List, length, map, slice_index, slice_index_or}
+use Rattle.std.specs.Prelude.{◌≡◌, ℕ, ◌<◌, ◌≤◌, List, length, map, slice_index, slice_index_or}
 use Rattle.std.specs.List.{All}
 use Rattle.vt_dec.specs.declared.side.Side.{Side}
 use Rattle.vt_store.specs.Ends.{CellEnd, EachCell, mapped_end}

@@ -177,12 +177,7 @@ impl<const N: usize> Store<N> {
 
     /// The cells to which some cells and one more lead at whatever decision, as a store of their own.
     /// It takes time by what is taken out, and not by how many cells there are.
-    pub fn part(
-        &self,
-        alloc: Global,
-        cells: &[CellId],
-        root: CellId,
-    ) -> Result<Part<N>, AllocError>
+    pub fn part(&self, alloc: Global, cells: &[CellId], root: CellId) -> Result<Part<N>, AllocError>
         requires cells { All (λ cell. cell < cell_count self.now) cells.now }
         requires root { root < cell_count self.now }
         ensures part { IfOk result (IsPart self.now cells.now root) }
@@ -256,11 +251,7 @@ fn raised_copies(alloc: Global, diagrams: &[Diagram], by: usize) -> Result<Vec<D
 }
 
 /// The diagrams of the cells that were found, and of all to which they lead, which are found on the way.
-fn taken(
-    alloc: Global,
-    diagrams: &[Diagram],
-    found: &mut Found,
-) -> Result<Vec<Diagram>, AllocError>
+fn taken(alloc: Global, diagrams: &[Diagram], found: &mut Found) -> Result<Vec<Diagram>, AllocError>
     requires cells { All (HasCells (length diagrams.now)) diagrams.now }
     requires within { All (λ cell. cell < length diagrams.now) found.old }
     ensures { IfOk result (λ copies. AreTaken diagrams.now found.old found.new copies.items) }

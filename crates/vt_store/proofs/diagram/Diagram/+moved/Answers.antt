@@ -1,5 +1,5 @@
 use Rattle.vt_store.proofs.Writing.{if_ok}
-use Rattle.vt_store.proofs.Finding.{IsMoved-open, IsMoved-link, IsMoved-con, IsMoved-choice}
+use Rattle.vt_store.proofs.Finding.{IsMoved-choice}
 use Rattle.vt_store.proofs.diagram.Diagram.+moved.Goals as goal
 
 pub returns-in_ok-right-in-Choice : goal.returns-in_ok-right-in-Choice

@@ -27,12 +27,14 @@ returns g c =
     let new : Cells = record { cells = c.in_ok-diagrams.diagrams.items; space = c.self.inside.space; spare = 0 } in
     let made = IsPart-taken g.row.N whole new _ _ c.self.invariant taken refl _ _ _ _ _ _ c.in_ok-cells.ensures c.in_ok-root.ensures in
     rw (← c.self.view_is)
-    (record { part = record {
-      space = refl;
-      origin = made.origin;
-      cells_are = made.cells_are;
-      root_is = made.root_is;
-      cells_within = made.cells_within;
-      root_within = made.root_within;
-      ends = made.ends;
-    } })
+    (record {
+      part = record {
+        space = refl;
+        origin = made.origin;
+        cells_are = made.cells_are;
+        root_is = made.root_is;
+        cells_within = made.cells_within;
+        root_within = made.root_within;
+        ends = made.ends;
+      };
+    })
