@@ -123,3 +123,7 @@ module _ (n : ℕ) (e : ℕ → CellEnd) (other : ℕ → Plain) (solves : Solve
 
   pub solution-most_general : IsAcyclic n e → IsMostGeneral n e (solution e n) other
   solution-most_general acyclic = record { images = image n other; well_formed = image-well_formed; same = λ cell within. solution-instance n cell (acyclic cell within) }
+
+-- an open cell is a variable named by its number
+pub solution-open : (n : ℕ) (e : ℕ → CellEnd) → IsAcyclic n e → (cell : ℕ) → cell < n → e cell ≡ Free → solution e n cell ≡ Var (cell ∷ [])
+solution-open n e acyclic cell within free = solution-type_of n e acyclic n cell (acyclic cell within) ∙ ap (type_of (solution e n) cell) free

@@ -1,7 +1,7 @@
-use Rattle.std.specs.Prelude.{◌≡◌, ℕ, ◌<◌, List}
-use Rattle.vt_type.specs.declared.plain.Plain.{Plain}
+use Rattle.std.specs.Prelude.{◌≡◌, ℕ, ◌<◌, List, [], ◌∷◌}
+use Rattle.vt_type.specs.declared.plain.Plain.{Plain, Var}
 use Rattle.vt_type.specs.Plain.{IsWellFormed, substituted}
-use Rattle.vt_store.specs.Ends.{CellEnd, IsAcyclic, AreArities}
+use Rattle.vt_store.specs.Ends.{CellEnd, Free, IsAcyclic, AreArities}
 use Rattle.vt_store.specs.Solutions.{Solves}
 use Rattle.vt_store.specs.Parts.{IsPartOf}
 
@@ -32,3 +32,13 @@ abbrev pub AreSolvedAlike : Type 0
 AreSolvedAlike =
     (count all : ℕ) (part whole : ℕ → CellEnd) (origin : ℕ → ℕ) → IsPartOf count part all whole origin → IsAcyclic all whole → AreArities all whole
     → IsSolvedAlike count part all whole origin
+
+-- a most general solution in which each open cell is a variable named by its number
+pub record IsOwnSolution (n : ℕ) (e : ℕ → CellEnd) (s : ℕ → Plain) : Type 0 where
+  pub solves : Solves n e s
+  pub open_cells : (cell : ℕ) → cell < n → e cell ≡ Free → s cell ≡ Var (cell ∷ [])
+  pub general : (other : ℕ → Plain) → Solves n e other → IsMostGeneral n e s other
+
+-- Where no cell contains itself, there is one.
+abbrev pub HaveOwnSolution : Type 0
+HaveOwnSolution = (n : ℕ) (e : ℕ → CellEnd) → IsAcyclic n e → AreArities n e → (s : ℕ → Plain) × IsOwnSolution n e s
