@@ -1,7 +1,8 @@
-use Rattle.std.specs.Prelude.{◌≡◌, ℕ, List, Option}
+use Rattle.std.specs.Prelude.{◌≡◌, ℕ, ◌<◌, List, Option}
 use Rattle.vt_dec.specs.declared.side.Side.{Side}
 use Rattle.vt_dec.specs.declared.side.Space.{Space}
 use Rattle.vt_dec.specs.declared.fate.Fate.{Fate}
+use Rattle.vt_dec.specs.declared.fate.Fate.TheVariants.{Alive, Dead}
 use Rattle.vt_dec.specs.Decisions.{Region, Admits}
 use Rattle.vt_store.specs.declared.fates.Fates.{Fates}
 use Rattle.vt_store.specs.Fates.{fate_in, PassesFates, killed}
@@ -16,6 +17,11 @@ pub record FateMap : Type 0 where
 -- the fate of a decision
 abbrev pub fate_at : FateMap → List Side → Fate
 fate_at pattern decision = fate_in decision pattern.fates
+
+-- a decision with this fate is shown where all nodes up to a mark are looked at: it is alive, or dead only later
+abbrev pub IsShown : ℕ → Fate → Type 0
+IsShown mark Alive = Unit {0}
+IsShown mark (Dead node) = mark < node
 
 -- what is alive in the context is dead with the node, and all other decisions of the space stay
 pub record IsMasked (N : ℕ) (region : Region) (node : ℕ) (old new : FateMap) : Type 0 where
