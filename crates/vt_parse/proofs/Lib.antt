@@ -12,3 +12,6 @@ pub mod DepthLemmas
 pub mod ReduceLemmas
 pub mod ParsedLemmas
 pub mod LawLemmas
+pub mod Counting
+pub mod OtherStacks
+pub mod StepLemmas

@@ -17,6 +17,7 @@ use Rattle.vt_parse.specs.declared.mark.Mark.{Mark}
 use Rattle.vt_parse.specs.declared.mark.Mark.TheVariants as mark
 use Rattle.vt_parse.specs.declared.start.Start.{Start}
 use Rattle.vt_parse.specs.declared.start.Start.TheVariants as start
+use Rattle.vt_parse.specs.declared.reader.Reader.{Reader}
 use Rattle.vt_parse.specs.declared.frame.Frame.{Frame}
 use Rattle.vt_parse.specs.declared.frame.Frame.TheVariants as frame
 use Rattle.vt_parse.specs.declared.frame.Right.TheVariants as right
@@ -31,11 +32,8 @@ use Rattle.vt_parse.specs.Frames.{part_of, operand_of, infix_of, both, binder_at
 
 -- What has been read: the definitions and the depth of the deepest of them, and, of the definition or
 -- main expression that is being read, the open constructs, the innermost first, and what comes next.
-pub record State : Type 0 where
-  pub defs : List Def
-  pub deepest : ℕ
-  pub stack : List Frame
-  pub next : Place
+abbrev pub State : Type 0
+State = Reader
 
 -- before the first token
 abbrev pub initial : State

@@ -11,6 +11,8 @@ use Rattle.vt_parse.specs.declared.mark.Mark.{Mark}
 use Rattle.vt_parse.specs.declared.mark.Mark.TheVariants as mark
 use Rattle.vt_parse.specs.declared.start.Start.{Start}
 use Rattle.vt_parse.specs.declared.start.Start.TheVariants as start
+use Rattle.vt_parse.specs.declared.start.NameStart.{NameStart}
+use Rattle.vt_parse.specs.declared.start.NameStart.TheVariants as name_start
 use Rattle.vt_parse.specs.declared.start.Leaf.TheVariants as leaf
 use Rattle.vt_parse.specs.declared.start.Opening.TheVariants as opening
 use Rattle.vt_parse.specs.declared.start.Statement.TheVariants as statement
@@ -63,6 +65,12 @@ start_of kind.Name = start.Leaf leaf.Name
 start_of kind.Dim = start.Opens opening.Choice
 start_of (kind.Key key) = start_of_key key
 start_of (kind.Sign sign) = start_of_sign sign
+
+-- what a token is where a name is wanted
+abbrev pub name_start_of : TokenKind → NameStart
+name_start_of kind.Name = name_start.Name
+name_start_of (kind.Key key.RecKey) = name_start.Recursive
+name_start_of other = name_start.Nothing
 
 -- the operator that a reserved word is
 abbrev pub operator_of_key : Key → Option Op

@@ -7,9 +7,13 @@
 //! will answer.
 #![tactic(auto)]
 
+mod beginning;
 mod closing;
+mod definitions;
 mod depth;
+mod ending;
 mod fault;
+mod finishing;
 mod frame;
 pub mod laws;
 mod leaves;
@@ -17,9 +21,13 @@ mod levels;
 mod mark;
 mod moving;
 mod operand;
+mod parsing;
+mod reader;
 mod reduce;
 mod stack;
 mod start;
+mod stepping;
 mod words;
 
 pub use fault::ParseFault;
+pub use parsing::parse;

@@ -1,10 +1,10 @@
 //! What each kind of token can be for the reader.
 ghost use Rattle.std.specs.Prelude.{◌≡◌};
-ghost use Rattle.vt_parse.specs.Words.{start_of_key, start_of_sign, start_of, operator_of_key, operator_of_sign, operator_of, mark_of_key, mark_of_sign, mark_of, mark_number};
+ghost use Rattle.vt_parse.specs.Words.{start_of_key, start_of_sign, start_of, operator_of_key, operator_of_sign, operator_of, mark_of_key, mark_of_sign, mark_of, mark_number, name_start_of};
 ghost use Rattle.vt_parse.specs.Machine.{same_mark};
 
 use crate::mark::Mark;
-use crate::start::{Leaf, Opening, Start, Statement};
+use crate::start::{Leaf, NameStart, Opening, Start, Statement};
 use vt_lex::{Key, Sign, TokenKind};
 use vt_syntax::Op;
 
@@ -65,6 +65,17 @@ fn start_of_sign(sign: Sign) -> Start
         Sign::Minus => Start::Nothing,
         Sign::Star => Start::Nothing,
         Sign::Caret => Start::Nothing,
+    }
+}
+
+/// What a token is where a name is wanted.
+pub fn name_start_of(kind: TokenKind) -> NameStart
+    ensures { result ≡ name_start_of kind }
+{
+    match kind {
+        TokenKind::Name => NameStart::Name,
+        TokenKind::Key(Key::RecKey) => NameStart::Recursive,
+        _ => NameStart::Nothing,
     }
 }
 

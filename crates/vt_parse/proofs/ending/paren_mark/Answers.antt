@@ -1,0 +1,5 @@
+use Rattle.vt_parse.proofs.DepthLemmas.{over-fits}
+use Rattle.vt_parse.proofs.ending.paren_mark.Goals as goal
+
+pub wrapped-whole-requires : goal.wrapped-whole-requires
+wrapped-whole-requires c = over-fits c.args.reader.stack _ c.requires

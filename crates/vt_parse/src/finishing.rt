@@ -1,0 +1,50 @@
+//! The end of the tokens.
+ghost use Rattle.std.specs.Prelude.{◌≤◌, IfOk};
+ghost use Rattle.vt_syntax.specs.Spelling.{most_depth};
+ghost use Rattle.vt_parse.specs.Machine.{depth_over, reduce, need};
+ghost use Rattle.vt_parse.specs.Reading.{IsFinished, IsFinishedWith};
+
+use crate::definitions::Definitions;
+use crate::frame::Place;
+use crate::operand::Operand;
+use crate::reader::Reader;
+use crate::reduce::reduce;
+use crate::stack::Stack;
+use std::alloc::{AllocError, Global};
+use vt_syntax::Program;
+
+/// The program that ends here, if one does.
+pub fn finish(alloc: Global, reader: Reader) -> Result<Option<Program>, AllocError>
+    requires { need reader ≤ most_depth }
+    ensures { IfOk result (IsFinished reader) }
+{
+    let Reader {
+        defs, stack, next, ..
+    } = reader;
+    match next {
+        Place::Wanted => Ok(None),
+        Place::Awaits(_) => Ok(None),
+        Place::Read(operand) => finish_with(alloc, defs, stack, operand),
+    }
+}
+
+fn finish_with(
+    alloc: Global,
+    defs: Definitions,
+    stack: Stack,
+    operand: Operand,
+) -> Result<Option<Program>, AllocError>
+    requires { depth_over stack operand.depth ≤ most_depth }
+    ensures { IfOk result (IsFinishedWith defs (reduce 0 stack operand)) }
+{
+    let mut stack = stack;
+    let last = reduce(alloc, 0, &mut stack, operand)?;
+    if stack.is_empty() {
+        Ok(Some(Program {
+            defs: defs.into_defs(),
+            main: last.expr,
+        }))
+    } else {
+        Ok(None)
+    }
+}

@@ -1,0 +1,161 @@
+//! One token.
+ghost use Rattle.std.specs.Prelude.{◌≡◌, ◌≤◌, IfOk, slice_index};
+ghost use Rattle.vt_lex.specs.declared.token.TokenKind.TheVariants.{Dim};
+ghost use Rattle.vt_lex.specs.Spans.{IsSpanIn};
+ghost use Rattle.vt_syntax.specs.Spelling.{most_depth};
+ghost use Rattle.vt_parse.specs.declared.start.Opening.TheVariants.{Choice};
+ghost use Rattle.vt_parse.specs.Words.{start_of, operator_of};
+ghost use Rattle.vt_parse.specs.Reading.{is_operand};
+ghost use Rattle.vt_parse.specs.Machine.{await, join, argument, follow, continue, step, depth_over, need};
+
+use crate::beginning::{begin, want};
+use crate::ending::end_at;
+use crate::frame::{Frame, Place};
+use crate::levels::left_level;
+use crate::mark::Mark;
+use crate::moving::place_after;
+use crate::operand::Operand;
+use crate::reader::Reader;
+use crate::reduce::reduce;
+use crate::start::Start;
+use crate::words::{mark_of, operator_of, same_mark, start_of};
+use std::alloc::{AllocError, Global};
+use vt_lex::{Span, Token};
+use vt_syntax::Op;
+
+/// The reader after this token, if some program goes on with it.
+pub fn step(
+    alloc: Global,
+    text: &str,
+    reader: Reader,
+    token: Token,
+) -> Result<Option<Reader>, AllocError>
+    requires admitted { need reader ≤ most_depth }
+    requires span { IsSpanIn text.now token.span }
+    requires sign { token.kind ≡ Dim → slice_index text.now token.span.start ≡ 64 }
+    ensures { IfOk result (λ next. next ≡ step text.now reader token) }
+{
+    let Reader {
+        defs,
+        deepest,
+        stack,
+        next,
+    } = reader;
+    let reader = Reader {
+        defs,
+        deepest,
+        stack,
+        next: Place::Wanted,
+    };
+    match next {
+        Place::Wanted => want(alloc, text, token, reader),
+        Place::Awaits(mark) => Ok(await_mark(mark, mark_of(token.kind), reader)),
+        Place::Read(operand) => continue_with(alloc, text, token, reader, operand),
+    }
+}
+
+// A token where this sign is awaited.
+fn await_mark(mark: Mark, found: Option<Mark>, reader: Reader) -> Option<Reader>
+    ensures { result ≡ await mark found reader }
+{
+    match found {
+        None => None,
+        Some(found) => {
+            if same_mark(mark, found) {
+                Some(reader.placed(place_after(mark)))
+            } else {
+                None
+            }
+        }
+    }
+}
+
+// A token after an operand.
+fn continue_with(
+    alloc: Global,
+    text: &str,
+    token: Token,
+    reader: Reader,
+    operand: Operand,
+) -> Result<Option<Reader>, AllocError>
+    requires admitted { depth_over reader.stack operand.depth ≤ most_depth }
+    requires span { IsSpanIn text.now token.span }
+    requires sign { token.kind ≡ Dim → slice_index text.now token.span.start ≡ 64 }
+    ensures { IfOk result (λ next. next ≡ continue text.now (operator_of token.kind) token reader operand) }
+{
+    match operator_of(token.kind) {
+        Some(op) => join(alloc, Some(op), token.span, reader, operand),
+        None => follow(alloc, text, token, reader, operand),
+    }
+}
+
+// A token after an operand that is no operator.
+fn follow(
+    alloc: Global,
+    text: &str,
+    token: Token,
+    reader: Reader,
+    operand: Operand,
+) -> Result<Option<Reader>, AllocError>
+    requires admitted { depth_over reader.stack operand.depth ≤ most_depth }
+    requires span { IsSpanIn text.now token.span }
+    requires sign { token.kind ≡ Dim → slice_index text.now token.span.start ≡ 64 }
+    ensures { IfOk result (λ next. next ≡ follow text.now (start_of token.kind) token reader operand) }
+{
+    let start = start_of(token.kind);
+    if is_operand(start) {
+        let joined = join(alloc, None, token.span, reader, operand)?;
+        argument(alloc, text, start, token.span, joined)
+    } else {
+        end_at(alloc, mark_of(token.kind), token.span, reader, operand)
+    }
+}
+
+// What is applied, if it may be, to what this token begins.
+fn argument(
+    alloc: Global,
+    text: &str,
+    start: Start,
+    at: Span,
+    joined: Option<Reader>,
+) -> Result<Option<Reader>, AllocError>
+    requires span { IsSpanIn text.now at }
+    requires sign { start ≡ Start.Opens Choice → slice_index text.now at.start ≡ 64 }
+    ensures { IfOk result (λ next. next ≡ argument text.now start at joined) }
+{
+    match joined {
+        None => Ok(None),
+        Some(reader) => begin(alloc, text, start, at, reader),
+    }
+}
+
+// Whether an operand begins so, which may be an argument.
+fn is_operand(start: Start) -> bool
+    ensures { result ≡ is_operand start }
+{
+    match start {
+        Start::Leaf(_) => true,
+        Start::Opens(_) => true,
+        _ => false,
+    }
+}
+
+// An operator, or nothing, after an operand.
+fn join(
+    alloc: Global,
+    op: Option<Op>,
+    at: Span,
+    reader: Reader,
+    operand: Operand,
+) -> Result<Option<Reader>, AllocError>
+    requires { depth_over reader.stack operand.depth ≤ most_depth }
+    ensures { IfOk result (λ next. next ≡ join op at reader operand) }
+{
+    let mut reader = reader;
+    let left = reduce(alloc, left_level(op), &mut reader.stack, operand)?;
+    if reader.stack.may_join(op) {
+        Ok(Some(reader.opened(Frame::Joint(op, at, left), Place::Wanted)?))
+    } else {
+        Ok(None)
+    }
+}
