@@ -1,5 +1,6 @@
 use Rattle.std.proofs.Common.{◌≡◌, ℕ, suc, ◌+◌, ◌*◌, ◌<◌, ◌≤◌, Bool, true, false, List, [], ◌∷◌, ◌++◌, length, arith, length-append}
 use Rattle.std.specs.Prelude.{sum, map}
+use Rattle.std.proofs.lemmas.List.Sums.{sum_by-cons}
 use Rattle.vt_lex.specs.declared.span.Span.{Span}
 use Rattle.vt_lex.specs.declared.token.Token.{Token}
 use Rattle.vt_syntax.specs.declared.expr.Expr.{Expr}
@@ -9,7 +10,7 @@ use Rattle.vt_syntax.specs.declared.program.Program.{Program}
 use Rattle.vt_syntax.specs.SurfaceTrees.{core_nodes, list_nodes}
 use Rattle.vt_syntax.specs.Programs.{program_nodes}
 use Rattle.vt_syntax.specs.Infixes.{Infix, Operator, Applied, infix_tokens}
-use Rattle.vt_syntax.specs.Spelling.{Part, Spells, number, quoted, yes, no, name, hole, empty, list, parens, pair, choice, joins, fun, let_in, let_rec, if_else, match_list, SpellsItems, last, more, SpellsProgram, main, def, SpellsIn}
+use Rattle.vt_syntax.specs.Spelling.{Part, Spells, number, quoted, yes, no, name, hole, empty, list, parens, pair, choice, joins, fun, let_in, let_rec, if_else, match_list, SpellsItems, last, more, SpellsProgram, main, def, SpellsIn, word_at}
 
 -- The core of what tokens spell has fewer than four nodes a token.
 
@@ -38,13 +39,21 @@ mutual
   few_items (last ts p h) = let m = few h in omega arith
   few_items (more a ts us p es depth h k) = let m = few h in let n = few_items k in simp length-append (omega arith)
 
+total-cons : (d : Def) (defs : List Def)
+    → sum (map (λ (d : Def). 1 + core_nodes d.body.form) (d ∷ defs)) ≡ (1 + core_nodes d.body.form) + sum (map (λ (d : Def). 1 + core_nodes d.body.form) defs)
+total-cons d defs = sum_by-cons (λ (n : ℕ). n) (1 + core_nodes d.body.form) (map (λ (d : Def). 1 + core_nodes d.body.form) defs)
+
 pub few_nodes : (text : List ℕ) (ts : List Token) (defs : List Def) (body : Expr) (depth : ℕ)
     → SpellsProgram text ts defs body depth → sum (map (λ (d : Def). 1 + core_nodes d.body.form) defs) + core_nodes body.form < 4 * length ts
-few_nodes text _ _ _ _ (main ts p h) = few h
+few_nodes text _ _ _ _ (main ts p h) = let m = few h in omega arith
 few_nodes text _ _ _ _ (def a r at b c false ts us p defs body depth h k) =
-    let m = few h in let n = few_nodes text us defs body depth k in simp length-append (omega arith)
+    let m = few h in let n = few_nodes text us defs body depth k in
+    let one = total-cons (record { name = word_at text at; name_span = at; recursive = false; body = p.expr }) defs in
+    simp length-append (omega (arith, one))
 few_nodes text _ _ _ _ (def a r at b c true ts us p defs body depth h k) =
-    let m = few h in let n = few_nodes text us defs body depth k in simp length-append (omega arith)
+    let m = few h in let n = few_nodes text us defs body depth k in
+    let one = total-cons (record { name = word_at text at; name_span = at; recursive = true; body = p.expr }) defs in
+    simp length-append (omega (arith, one))
 
 pub few-program : (text : List ℕ) (ts : List Token) (program : Program) (depth : ℕ) → SpellsIn text ts program depth → program_nodes program < 4 * length ts
 few-program text ts program depth h = few_nodes text ts program.defs program.main depth h

@@ -119,22 +119,26 @@ pub reached-first : (text : List ℕ) → IsReached text [] initial
 reached-first text = record { runs = refl; admitted = omega arith }
 
 -- one token more
-module _ (text : List ℕ) (ts : List Token) (i : ℕ) (t : Token) (s : State)
-    (reached : IsReached text (take i ts) s) (within : i < length ts) (here : t ≡ get_or ts i t) where
-  longer : take (i + 1) ts ≡ take i ts ++ t ∷ []
-  longer = take_more ts i t within ∙ ap (λ u. take i ts ++ u ∷ []) (sym here)
+module _ (text : List ℕ) (ts : List Token) (i : ℕ) (d : Token) (s : State)
+    (reached : IsReached text (take i ts) s) (within : i < length ts) where
+  longer : take (i + 1) ts ≡ take i ts ++ get_or ts i d ∷ []
+  longer = take_more ts i d within
 
-  pub reached-next : (u : State) → step text s t ≡ Some u → need u ≤ most_depth → IsReached text (take (i + 1) ts) u
-  reached-next u e h = record { runs = ap (run text initial) longer ∙ (run-onto text (take i ts) t initial s (Some u) reached.runs e); admitted = h }
+  pub reached-next : (u : State) → step text s (get_or ts i d) ≡ Some u → need u ≤ most_depth → IsReached text (take (i + 1) ts) u
+  reached-next u e h = record { runs = ap (run text initial) longer ∙ (run-onto text (take i ts) (get_or ts i d) initial s (Some u) reached.runs e); admitted = h }
 
-  pub stop-unexpected : step text s t ≡ None → IsUnexpected text ts i
-  stop-unexpected e = (reached-begins text (take i ts) s reached, inl (within, rw longer (no-step text (take i ts) t s reached.runs e)))
+  pub stop-unexpected : step text s (get_or ts i d) ≡ None → IsUnexpected text ts i
+  stop-unexpected e = (reached-begins text (take i ts) s reached, inl (within, rw longer (no-step text (take i ts) (get_or ts i d) s reached.runs e)))
 
-  pub stop-deep : (u : State) → step text s t ≡ Some u → most_depth < need u → IsTooDeep text ts i
+  pub stop-deep : (u : State) → step text s (get_or ts i d) ≡ Some u → most_depth < need u → IsTooDeep text ts i
   stop-deep u e over =
-      let runs = ap (run text initial) longer ∙ run-onto text (take i ts) t initial s (Some u) reached.runs e in
+      let runs = ap (run text initial) longer ∙ run-onto text (take i ts) (get_or ts i d) initial s (Some u) reached.runs e in
       let d = too-deep text (take (i + 1) ts) u runs over in
       (within, reached-begins text (take i ts) s reached, d.0, d.1)
+
+-- all tokens
+pub reached-all : (text : List ℕ) (ts : List Token) (i : ℕ) (s : State) → length ts ≤ i → IsReached text (take i ts) s → IsReached text ts s
+reached-all text ts i s h r = rw (take_all i ts h) at r
 
 -- no program at the end of all tokens
 pub end-unexpected : (text : List ℕ) (ts : List Token) (s : State) → IsReached text ts s → finish s ≡ None → IsUnexpected text ts (length ts)

@@ -1,5 +1,5 @@
 use Rattle.std.proofs.Common.{◌≡◌, ℕ, suc, ◌+◌, ◌≤◌, ◌<◌, max, Bool, true, false, List, [], ◌∷◌, refl, sym, ap, subst, ◌∙◌, arith, add-one}
-use Rattle.std.specs.Prelude.{Option, Some, None, Result, Ok, Err, IfOk, IsTrue, if◌then◌else◌}
+use Rattle.std.specs.Prelude.{Option, Some, None, Result, Ok, Err, IfOk, IsTrue, is_some, if◌then◌else◌}
 use Rattle.std.specs.declared.alloc.AllocError.{AllocError}
 use Rattle.vt_lex.specs.declared.span.Span.{Span}
 use Rattle.vt_lex.specs.declared.token.Key.TheVariants.{RecKey}
@@ -234,3 +234,24 @@ module _ (text : List ℕ) (t : Token) (s : State) where
 pub depth-admitted : (stack : List Frame) (next : Place) (p : Operand) (d : ℕ) (o : Option ℕ) → next ≡ place.Read p → d ≡ p.depth
     → IsAdmitted (depth_over stack d) o → IsAdmitted (depth_at stack next) o
 depth-admitted stack next p d o e h a = let k = rw h at a in rw e k
+
+pub some-admitted : (d : ℕ) (o : Option ℕ) → IsAdmitted d o → is_some o ≡ true → d ≤ most_depth
+some-admitted d (Some found) a e = omega arith
+some-admitted d None a e = cc
+
+pub none-admitted : (d : ℕ) (o : Option ℕ) → IsAdmitted d o → is_some o ≡ false → most_depth < d
+none-admitted d (Some found) a e = cc
+none-admitted d None a e = a
+
+-- what is needed is admitted where both of its parts are
+module _ (s : State) (deepest next : Option ℕ) (one : Bool) (a : IsAdmitted s.deepest deepest) (is : one ≡ is_some deepest) where
+  pub need-both : (other : Bool) → IsAdmitted (depth_at s.stack s.next) next → other ≡ is_some next → one ≡ true
+      → (IsTrue other → need s ≤ most_depth) × (need s ≤ most_depth → IsTrue other)
+  need-both true b h e = (λ _. let m = some-admitted s.deepest deepest a (sym is ∙ e) in let n = some-admitted (depth_at s.stack s.next) next b (sym h) in omega arith, λ _. refl)
+  need-both false b h e = (λ t. cc, λ k. absurd (let n = none-admitted (depth_at s.stack s.next) next b (sym h) in omega arith))
+
+  pub need-one : one ≡ false → (IsTrue one → need s ≤ most_depth) × (need s ≤ most_depth → IsTrue one)
+  need-one e = (λ t. absurd (let f : one ≡ true = t in cc), λ k. absurd (let n = none-admitted s.deepest deepest a (sym is ∙ e) in omega arith))
+
+pub need-refused : (n : ℕ) (b : Bool) → (n ≤ most_depth → IsTrue b) → b ≡ false → most_depth < n
+need-refused n b h e = let k : n ≤ most_depth → ⊥ = (λ (l : n ≤ most_depth). let t : b ≡ true = h l in cc) in omega arith

@@ -19,7 +19,10 @@ pub fn finish(alloc: Global, reader: Reader) -> Result<Option<Program>, AllocErr
     ensures { IfOk result (IsFinished reader) }
 {
     let Reader {
-        defs, stack, next, ..
+        defs,
+        stack,
+        next,
+        ..
     } = reader;
     match next {
         Place::Wanted => Ok(None),

@@ -21,7 +21,6 @@ use vt_syntax::Program;
 
 /// The program that the tokens of a text spell, if it is admitted. Otherwise the first token that no
 /// admitted program has there. A fault of memory says nothing of the tokens.
-#[tactic(none)]
 pub fn parse(alloc: Global, text: &str, tokens: &[Token]) -> Result<Program, ParseFault>
     requires spans { AreSpansIn text.now tokens.now }
     requires dimensions { BeginWithAt text.now tokens.now }
@@ -53,12 +52,7 @@ enum Outcome {
     TooDeep,
 }
 
-fn advance(
-    alloc: Global,
-    text: &str,
-    reader: Reader,
-    token: Token,
-) -> Result<Outcome, AllocError>
+fn advance(alloc: Global, text: &str, reader: Reader, token: Token) -> Result<Outcome, AllocError>
     requires admitted { need reader ≤ most_depth }
     requires span { IsSpanIn text.now token.span }
     requires sign { token.kind ≡ Dim → slice_index text.now token.span.start ≡ 64 }
@@ -68,7 +62,6 @@ fn advance(
     Ok(outcome_of(next))
 }
 
-#[tactic(none)]
 fn outcome_of(next: Option<Reader>) -> Outcome
     ensures { IsOutcome next result }
 {
@@ -85,7 +78,6 @@ fn outcome_of(next: Option<Reader>) -> Outcome
 }
 
 // Whether some program that is admitted goes on from here.
-#[tactic(none)]
 fn is_admitted(reader: &Reader) -> bool
     ensures { IsTrue result ↔ need reader.now ≤ most_depth }
 {

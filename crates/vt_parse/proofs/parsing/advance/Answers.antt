@@ -4,5 +4,5 @@ use Rattle.vt_parse.specs.Machine.{State}
 use Rattle.vt_parse.specs.Reading.{IsOutcome}
 use Rattle.vt_parse.proofs.parsing.advance.Goals as goal
 
-pub returns-in_ok-next : goal.returns-in_ok-next
-returns-in_ok-next c = subst (λ (o : Option State). IsOutcome o c.outcome_of.result) c.in_ok-next.ensures c.outcome_of.ensures
+pub returns : goal.returns
+returns c = subst (λ (o : Option State). IsOutcome o c.outcome_of.result) c.in_ok-next.ensures c.outcome_of.ensures
