@@ -109,17 +109,9 @@ module _ (at : Span) (es : Exprs) (deepest : ℕ) (s : State) (rest : List Frame
         none (frame.Element before) h = absurd h
         none one h = refl
 
+-- outside of all constructs there is no list to end
 pub list-end : (at : Span) (es : Exprs) (depth : ℕ) (s : State) → s.stack ≡ [] → None ≡ end_list at es depth s s.stack
 list-end at es depth s e = rw e refl
-
--- an operand is joined to what follows, or not
-module _ (op : Option Op) (at : Span) (s : State) (p left : Operand) (rest : List Frame)
-    (reduced : reduce (left_level (infix_of op)) s.stack p ≡ record { stack = rest; operand = left }) where
-  pub join-goes : may_join op rest ≡ true → join op at s p ≡ Some (moved s (frame.Joint op at left ∷ rest) place.Wanted)
-  join-goes h = rw (reduced, h) refl
-
-  pub join-stuck : may_join op rest ≡ false → join op at s p ≡ None
-  join-stuck h = rw (reduced, h) refl
 
 -- what is reduced is as deep as was needed
 pub reduced-admitted : (w : ℕ) (stack rest : List Frame) (p q : Operand)

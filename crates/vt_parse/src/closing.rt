@@ -4,7 +4,7 @@ ghost use Rattle.vt_syntax.specs.Spelling.{across, wrapped};
 ghost use Rattle.vt_parse.specs.Frames.{part_of, operand_of, both, closed, enclosed, deeper_tail, deeper_right};
 
 use crate::frame::{Right, Tail};
-use crate::operand::Operand;
+use crate::operand::{Binder, Operand};
 use std::alloc::{AllocError, Global};
 use vt_lex::Span;
 use vt_syntax::{Expr, Op};
@@ -88,16 +88,29 @@ pub fn closed(alloc: Global, tail: Tail, last: Operand) -> Result<Operand, Alloc
             empty,
             first,
             rest,
-        } => {
-            let span = across(from, last.span);
-            let depth = above(list.depth.max(empty.depth.max(last.depth)));
-            let expr = Expr::match_list(
-                alloc, span, list.expr, empty.expr, first.name, first.span, rest.name, rest.span,
-                last.expr,
-            )?;
-            Ok(Operand { expr, span, depth })
-        }
+        } => closed_match(alloc, from, list, empty, first, rest, last),
     }
+}
+
+// The last arm closes its `match`.
+fn closed_match(
+    alloc: Global,
+    from: Span,
+    list: Operand,
+    empty: Operand,
+    first: Binder,
+    rest: Binder,
+    last: Operand,
+) -> Result<Operand, AllocError>
+    requires { deeper_tail (Tail.CellArm from list empty first rest) last.depth < 2 ^ 64 }
+    ensures { IfOk result (λ operand. operand ≡ closed (Tail.CellArm from list empty first rest) last) }
+{
+    let span = across(from, last.span);
+    let depth = above(list.depth.max(empty.depth.max(last.depth)));
+    let expr = Expr::match_list(
+        alloc, span, list.expr, empty.expr, first.name, first.span, rest.name, rest.span, last.expr,
+    )?;
+    Ok(Operand { expr, span, depth })
 }
 
 /// A second part closes its brackets, by the sign that stands here.

@@ -1,10 +1,14 @@
 //! Programs of tokens.
 //!
-//! A list of tokens spells at most one program. A machine over lists of tokens reads it from left to
-//! right, with a stack of the constructs that are open; `specs/Machine.antt` says what it does at a token.
-//! That it reads what is spelled, and only that, is proved, and so are the laws in `laws`. The parts that
-//! the reader is made of stand here too; the reader itself is to follow. `specs/Answer.antt` says what it
-//! will answer.
+//! A list of tokens spells at most one program. [`parse`] gives it, or the first token that no program
+//! has there, or that only programs have that are nested too deep; `specs/Answer.antt` says which, by
+//! the relation of vt_syntax between tokens and programs. Read it first.
+//!
+//! A machine over lists of tokens, `specs/Machine.antt`, reads from left to right, with a stack of the
+//! constructs that are open. That it reads what is spelled, and only that, is proved. A [`Reader`] is a
+//! state of this machine, and the functions from `stepping` down do one step of it.
+//!
+//! [`Reader`]: reader::Reader
 #![tactic(auto)]
 
 mod beginning;
@@ -31,3 +35,6 @@ mod words;
 
 pub use fault::ParseFault;
 pub use parsing::parse;
+
+#[cfg(test)]
+mod tests;
