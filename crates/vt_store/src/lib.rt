@@ -4,7 +4,8 @@
 //! same as another cell, or a head over cells; and no cell contains itself. A [`Pattern`] says which
 //! decisions are still alive. Both are kept as diagrams, in which a decision finds its way by the
 //! sides that it takes. The layers above speak of ends and fates at decisions, and never of diagrams:
-//! read `specs/Ends.antt` and `specs/Solutions.antt` first, then `store.rt` and `pattern.rt`.
+//! read `specs/Ends.antt` and `specs/Solutions.antt` first, then `store.rt` and `pattern.rt`. Some cells,
+//! with all to which they lead, can be taken out as a store of their own: `specs/Parts.antt`.
 #![tactic(auto)]
 
 mod cell_list;

@@ -66,6 +66,18 @@ fn appended_cells_come_after_the_old(rt: HostRuntime) -> Result<(), Fail> {
 }
 
 #[test]
+fn a_part_has_what_its_cells_lead_to(rt: HostRuntime) -> Result<(), Fail> {
+    let mut store = Store::<1>::new(rt.alloc(), Space::All);
+    let _apart = store.fresh()?;
+    let open = store.fresh()?;
+    let root = store.con(Head::List, &[open])?;
+    let part = store.part(rt.alloc(), &[], root)?;
+    assert_eq!(rt; part.store.count(), 2);
+    assert!(rt; part.cells.as_slice().is_empty());
+    Ok(())
+}
+
+#[test]
 fn a_list_of_cells_gives_its_cells(rt: HostRuntime) -> Result<(), Fail> {
     let cells = CellList::new(Vec::from_slice(rt.alloc(), &[CellId(3), CellId(1)])?);
     assert!(rt; cells.as_slice() == [CellId(3), CellId(1)].as_slice());
