@@ -41,29 +41,29 @@ module _ (P : ℕ → Type 0) (xs ys : List ℕ) where
   pub All-right : All P (xs ++ ys) → All P ys
   All-right h i d within = subst P (get_or-append-add xs ys i d) (h (length xs + i) d (omega (arith, length-append xs ys)))
 
-All-head : (P : ℕ → Type 0) (x : ℕ) (xs : List ℕ) → All P (x ∷ xs) → P x
+pub All-head : (P : ℕ → Type 0) (x : ℕ) (xs : List ℕ) → All P (x ∷ xs) → P x
 All-head P x xs h = h 0 x (omega arith)
 
-All-tail : (P : ℕ → Type 0) (x : ℕ) (xs : List ℕ) → All P (x ∷ xs) → All P xs
+pub All-tail : (P : ℕ → Type 0) (x : ℕ) (xs : List ℕ) → All P (x ∷ xs) → All P xs
 All-tail P x xs h i d within = h (suc i) d (omega arith)
 
 module _ (R : ℕ → ℕ → Type 0) where
-  Pairs-left : (xs ys : List ℕ) → AllPairs R (xs ++ ys) → AllPairs R xs
+  pub Pairs-left : (xs ys : List ℕ) → AllPairs R (xs ++ ys) → AllPairs R xs
   Pairs-left xs ys h i j d less within =
       let le : i < length xs = omega arith in
       subst (λ y. R (get_or xs i d) y) (get_or_append_left xs ys d j within)
       (subst (λ x. R x (get_or (xs ++ ys) j d)) (get_or_append_left xs ys d i le) (h i j d less (omega (arith, length-append xs ys))))
 
-  Pairs-right : (xs ys : List ℕ) → AllPairs R (xs ++ ys) → AllPairs R ys
+  pub Pairs-right : (xs ys : List ℕ) → AllPairs R (xs ++ ys) → AllPairs R ys
   Pairs-right xs ys h i j d less within =
       subst (λ y. R (get_or ys i d) y) (get_or-append-add xs ys j d)
       (subst (λ x. R x (get_or (xs ++ ys) (length xs + j) d)) (get_or-append-add xs ys i d) (h (length xs + i) (length xs + j) d (omega arith) (omega (arith, length-append xs ys))))
 
-  Pairs-head : (x : ℕ) (xs : List ℕ) → AllPairs R (x ∷ xs) → All (R x) xs
+  pub Pairs-head : (x : ℕ) (xs : List ℕ) → AllPairs R (x ∷ xs) → All (R x) xs
   Pairs-head x xs h i d within = h 0 (suc i) d (omega arith) (omega arith)
 
   -- each of the first before the one that follows them
-  Pairs-before : (xs ys : List ℕ) (y : ℕ) → AllPairs R (xs ++ y ∷ ys) → All (λ x. R x y) xs
+  pub Pairs-before : (xs ys : List ℕ) (y : ℕ) → AllPairs R (xs ++ y ∷ ys) → All (λ x. R x y) xs
   Pairs-before [] ys y h i d within = absurd (omega arith)
   Pairs-before (x ∷ xs) ys y h zero d within = All-head (R x) y ys (All-right (R x) xs (y ∷ ys) (Pairs-head x (xs ++ y ∷ ys) h))
   Pairs-before (x ∷ xs) ys y h (suc i) d within = Pairs-before xs ys y (Pairs-right (x ∷ []) (xs ++ y ∷ ys) h) i d (omega arith)

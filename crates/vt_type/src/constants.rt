@@ -4,7 +4,7 @@ ghost use Rattle.std.specs.Option.{option_map};
 ghost use Rattle.std.specs.String.{string_bytes};
 ghost use Rattle.vt_type.specs.Plain.{IsWellFormed};
 ghost use Rattle.vt_type.specs.Canonical.{canonical, IsCanonical};
-ghost use Rattle.vt_type.specs.Constants.{core_constants, HasName, HasClosed};
+ghost use Rattle.vt_type.specs.Constants.{core_constants, HasName, HasClosed, IsTable};
 ghost use Rattle.vt_type.specs.Entries.{constant_of};
 
 use crate::core_constants::{CORE_COUNT, core_name, core_type};
@@ -118,6 +118,14 @@ impl Constants {
             }
         }
         None
+    }
+
+    /// How many constants there are. What it ensures of the table is what callers may rest on.
+    pub fn len(&self) -> usize
+        ensures count { result ≡ length self.now }
+        ensures table { IsTable self.now }
+    {
+        self.entries.len()
     }
 
     pub fn closed(&self, id: ConstId) -> &Plain
