@@ -17,7 +17,7 @@ use Rattle.vt_norm.proofs.Normalized.{comes, kids-come}
 
 -- What the recursion that builds the normal form does at each step.
 
-nodes-positive : (type : VType) → 0 < nodes type
+pub nodes-positive : (type : VType) → 0 < nodes type
 nodes-positive (Var name) = lit< tt
 nodes-positive (Con top kids) = omega arith
 nodes-positive (choice dim left right) = omega arith

@@ -24,7 +24,7 @@ joined-leaves sides dim one other side true e = rw (same_top-true one other e) (
     same_either Left top = refl
     same_either Right top = refl
 
-at-joined : (sides : ℕ → Side) (dim : ℕ) (left right : Diagram) → at sides (joined dim left right) ≡ by_side (Some (sides dim)) (at sides left) (at sides right)
+pub at-joined : (sides : ℕ → Side) (dim : ℕ) (left right : Diagram) → at sides (joined dim left right) ≡ by_side (Some (sides dim)) (at sides left) (at sides right)
 at-joined sides dim (Leaf one) (Leaf other) = joined-leaves sides dim one other Left (same_top one other) refl
 at-joined sides dim (Leaf one) (node other left right) = refl
 at-joined sides dim (node other one two) right = refl

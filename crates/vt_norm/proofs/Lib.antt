@@ -1,3 +1,5 @@
+pub mod Deciding
+pub mod FrontNodes
 pub mod Congruence
 pub mod Roots
 pub mod Soundness
@@ -15,5 +17,17 @@ pub mod Sets
 pub mod Steps
 pub mod Normalized
 pub mod Nodes
+pub mod Naming
+pub mod Placing
+pub mod Following
+pub mod Rooted
 pub mod Building
+pub mod Spotting
+pub mod Readings
+pub mod CanonicalReading
+pub mod Showing
+pub mod Tabulated
+pub mod ReadingOut
+pub mod Soles
+pub mod PlainReading
 pub mod Equivalences

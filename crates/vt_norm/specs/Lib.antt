@@ -1,3 +1,11 @@
+pub mod Sides
+pub mod Fronts
+pub mod Resolving
+pub mod Soles
+pub mod Pairing
+pub mod ReadOut
+pub mod Readings
+pub mod Names
 pub mod Parts
 pub mod Diagrams
 pub mod Normalizing

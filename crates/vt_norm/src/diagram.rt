@@ -155,7 +155,12 @@ fn is_below(one: Option<Dim>, other: Dim) -> bool
 }
 
 // A node, unless both sides are one leaf.
-fn joined(alloc: Global, dim: Dim, left: Diagram, right: Diagram) -> Result<Diagram, AllocError>
+pub(crate) fn joined(
+    alloc: Global,
+    dim: Dim,
+    left: Diagram,
+    right: Diagram,
+) -> Result<Diagram, AllocError>
     ensures { IfOk result (λ tree. tree ≡ joined dim left right) }
 {
     if are_one_leaf(&left, &right) {
