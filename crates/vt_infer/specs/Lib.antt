@@ -1,1 +1,11 @@
 pub mod Laws
+pub mod Places
+pub mod Numbered
+pub mod Steps
+pub mod Environments
+pub mod Inferring
+pub mod Building
+pub mod Equating
+pub mod Inferred
+pub mod Definitions
+pub mod Parts

@@ -1,9 +1,29 @@
 //! Which types a program has at each of its decisions.
 //!
-//! So far this crate states what holds of the definitions of `vt_rules` alone, each statement as the
-//! contract of a function that does nothing: laws about all programs in `laws`, and what the definitions
-//! say of small programs in `witnesses`. Inference is to follow.
+//! [`infer`] gives them: one pass over a program in the core, at every decision of a space at once. What it
+//! finds out is in `specs/Inferred.antt`; read it first, and then `inference.rt`, `definitions.rt` and
+//! `expression.rt`. An expression is looked at once, whatever the number of decisions; `specs/Inferring.antt`
+//! says what that does to the cells at one decision. What holds of the definitions of `vt_rules` alone is
+//! stated as contracts of functions that do nothing: laws about all programs in `laws`, and what the
+//! definitions say of small programs in `witnesses`.
 #![tactic(auto)]
 
+mod constant;
+mod definitions;
+pub mod environment;
+pub mod expression;
+mod inference;
+mod joining;
+mod last_node;
 pub mod laws;
+mod naming;
+mod steps;
+#[cfg(test)]
+mod tests;
+mod typed;
+mod variables;
 pub mod witnesses;
+pub mod work;
+
+pub use inference::infer;
+pub use typed::{Marks, Schemes, Typed};

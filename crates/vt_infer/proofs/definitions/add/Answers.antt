@@ -1,0 +1,32 @@
+use Rattle.std.proofs.Common.{rules, subst, sym}
+use Rattle.vt_infer.specs.Environments.{IsHeld}
+use Rattle.vt_infer.proofs.GoingOn.{held-later}
+use Rattle.vt_infer.proofs.definitions.add.Goals as goal
+
+pub generalise-requires : goal.generalise-requires
+generalise-requires g c =
+    let defined = c.in_ok-root.ensures in (
+      search rules,
+      (
+        defined.is_cell,
+        subst (IsHeld c.definition.new.work.store) (sym defined.environment) (held-later c.args.work.now.store c.definition.new.work.store c.args.work.now.environment defined.space defined.grows c.requires.held),
+      ),
+    )
+
+pub returns : goal.returns
+returns g c = record {
+  between = c.definition.new.work;
+  root = c.in_ok-root.root;
+  defined = c.in_ok-root.ensures;
+  solvable = c.solvable.ensures;
+  solvable_after = c.solvable-2.ensures;
+  store = c.in_ok-generalise.ensures.store;
+  pattern = c.in_ok-generalise.ensures.pattern;
+  scheme = c.in_ok-freeze.field-0;
+  frozen = c.in_ok-freeze.ensures.frozen;
+  schemes_are = c.in_ok-push.ensures;
+  marks_are = c.in_ok-push-2.ensures;
+  own = c.in_ok-generalise.ensures.entry.scheme;
+  own_frozen = c.in_ok-generalise.ensures.entry.frozen;
+  pushed = c.in_ok-generalise.ensures.entry.pushed;
+}

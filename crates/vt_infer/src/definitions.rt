@@ -1,0 +1,108 @@
+//! The definitions of a program, one after the other.
+ghost use Rattle.std.specs.Prelude.{◌≡◌, true, length, IfOk, OnOk};
+ghost use Rattle.vt_type.specs.Constants.{IsTable};
+ghost use Rattle.vt_infer.specs.Parts.{HasSolutions, IsDefined, IsDefinable, IsAdded, IsReached, Covers};
+
+use crate::environment::Entry;
+use crate::expression::expression;
+use crate::joining::equate;
+use crate::naming::generalise;
+use crate::steps::open_cell;
+use crate::typed::{Marks, Schemes};
+use crate::work::Work;
+use std::alloc::{AllocError, Global};
+use vt_dec::Context;
+use vt_scheme::freeze;
+use vt_store::laws::most_general_solution;
+use vt_store::{CellId, Store};
+use vt_syntax::{CoreDef, CoreProgram};
+use vt_type::Constants;
+
+/// All definitions of a program in the whole context: their names, their schemes and their marks.
+pub(crate) fn definitions<const N: usize>(
+    alloc: Global,
+    core: &CoreProgram,
+    constants: &Constants,
+    work: &mut Work<N>,
+    schemes: &mut Schemes<N>,
+    marks: &mut Marks,
+    within: &Context<N>,
+) -> Result<(), AllocError>
+    requires table { IsTable constants.now }
+    requires covers { Covers N within.now within.now.space }
+    requires reached { IsReached N constants.now core.now within.now.space 0 work.old schemes.old marks.old }
+    ensures { OnOk result (IsReached N constants.now core.now within.now.space (length core.now.defs) work.new schemes.new marks.new) }
+{
+    for def in core.defs.as_slice() {
+        add(alloc, def, constants, work, schemes, marks, within)?;
+    }
+    Ok(())
+}
+
+/// One more definition: its name, its scheme and its mark.
+fn add<const N: usize>(
+    alloc: Global,
+    def: &CoreDef,
+    constants: &Constants,
+    work: &mut Work<N>,
+    schemes: &mut Schemes<N>,
+    marks: &mut Marks,
+    within: &Context<N>,
+) -> Result<(), AllocError>
+    requires { IsDefinable N constants.now within.now def.now work.old }
+    ensures { OnOk result (IsAdded N constants.now within.now def.now work.old work.new schemes.old schemes.new marks.old marks.new) }
+{
+    solvable(&work.store);
+    let root = definition(def, constants, work, within)?;
+    solvable(&work.store);
+    schemes.push(freeze(alloc, &work.store, &[], root)?)?;
+    marks.push(def.node)?;
+    generalise(work, root)?;
+    Ok(())
+}
+
+/// A cell for a definition. At each decision it has exactly the types of what the decision selects; a
+/// decision at which that has none is dead from now on, with the node that fails first.
+fn definition<const N: usize>(
+    def: &CoreDef,
+    constants: &Constants,
+    work: &mut Work<N>,
+    within: &Context<N>,
+) -> Result<CellId, AllocError>
+    requires { IsDefinable N constants.now within.now def.now work.old }
+    ensures { IfOk result (λ cell. IsDefined N constants.now within.now def.now cell work.old work.new) }
+{
+    if def.recursive {
+        let cell = looped(def, constants, work, within)?;
+        return Ok(cell);
+    }
+    let cell = expression(&def.body, constants, work, within)?;
+    Ok(cell)
+}
+
+/// A recursive definition: within its own expression its name has one type.
+fn looped<const N: usize>(
+    def: &CoreDef,
+    constants: &Constants,
+    work: &mut Work<N>,
+    within: &Context<N>,
+) -> Result<CellId, AllocError>
+    requires recursive { def.now.recursive ≡ true }
+    requires definable { IsDefinable N constants.now within.now def.now work.old }
+    ensures { IfOk result (λ cell. IsDefined N constants.now within.now def.now cell work.old work.new) }
+{
+    let parameter = open_cell(&mut work.store)?;
+    work.environment.push(Entry::Mono(parameter))?;
+    let own = expression(&def.body, constants, work, within)?;
+    work.environment.pop();
+    equate(work, within, own, parameter, def.node)?;
+    Ok(parameter)
+}
+
+/// A store has a solution at each decision.
+pub(crate) fn solvable<const N: usize>(store: &Store<N>)
+    ensures { HasSolutions N store.now }
+{
+    most_general_solution();
+    let _space = store.space();
+}

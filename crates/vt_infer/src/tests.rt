@@ -1,0 +1,79 @@
+ghost use Rattle.std.specs.Prelude.{◌≡◌, ◌<◌, IfOk};
+ghost use Rattle.vt_dec.specs.declared.side.Space.TheVariants.{All};
+ghost use Rattle.vt_rules.specs.Examples.{alone, wrong_sum};
+ghost use Rattle.vt_store.specs.Stores.{cell_count};
+ghost use Rattle.vt_type.specs.Plain.{arity};
+
+use crate::{Typed, infer};
+use std::alloc::{AllocError, Global};
+use std::test::Fail;
+use vt_dec::{Context, Decision, Fate, NodeId, Space};
+use vt_lex::Span;
+use vt_store::Pattern;
+use vt_syntax::{Core, CoreDefs, CoreProgram, Form, Lit, replace_leaf};
+use vt_type::{ConstId, Constants, Head};
+use vt_unify::unify;
+
+const NOWHERE: Span = Span { start: 0, end: 0 };
+
+// The program `1 + true`.
+fn sum(alloc: Global) -> Result<CoreProgram, AllocError>
+    ensures { IfOk result (λ program. program ≡ alone wrong_sum) }
+{
+    let sign = Core::leaf(NodeId(1), NOWHERE, Form::Const(ConstId::ADD));
+    let one = Core::leaf(NodeId(2), NOWHERE, Form::Literal(Lit::Number(1)));
+    let half = Core::app(alloc, NodeId(3), NOWHERE, sign, one)?;
+    let truth = Core::leaf(NodeId(4), NOWHERE, Form::Literal(Lit::Truth(true)));
+    let main = Core::app(alloc, NodeId(5), NOWHERE, half, truth)?;
+    let defs = CoreDefs::new(Vec::new(alloc));
+    Ok(CoreProgram { defs, main })
+}
+
+// The types of `1 + _`.
+fn holed_sum(alloc: Global) -> Result<Typed<1>, AllocError>
+    ensures store { IfOk result (λ typed. typed.store.space ≡ All) }
+    ensures pattern { IfOk result (λ typed. typed.pattern.space ≡ All) }
+    ensures main { IfOk result (λ typed. typed.main < cell_count typed.store) }
+{
+    let constants = Constants::core(alloc)?;
+    let program = sum(alloc)?;
+    let program = replace_leaf(alloc, &program, NodeId(4))?;
+    let typed = infer(alloc, &program, &constants, Space::All)?;
+    Ok(typed)
+}
+
+// Whether the main expression of `1 + _` can have a type without parts, where every dimension is Left.
+fn can_be(alloc: Global, head: Head) -> Result<bool, AllocError>
+    requires { arity head ≡ 0 }
+{
+    let typed = holed_sum(alloc)?;
+    let mut store = typed.store;
+    let mut pattern = typed.pattern;
+    let cell = store.con(head, &[])?;
+    let whole = Context::whole(Space::All);
+    unify(
+        &mut store,
+        &mut pattern,
+        &whole,
+        typed.main,
+        cell,
+        NodeId(6),
+    )?;
+    Ok(is_alive(&pattern))
+}
+
+fn is_alive(pattern: &Pattern<1>) -> bool
+    requires { pattern.now.space ≡ All }
+{
+    let left = Decision::all_left();
+    pattern.fate(&left) == Fate::Alive
+}
+
+#[test]
+fn a_sum_with_a_hole_is_an_integer(rt: HostRuntime) -> Result<(), Fail> {
+    let typed = holed_sum(rt.alloc())?;
+    assert!(rt; is_alive(&typed.pattern));
+    assert!(rt; can_be(rt.alloc(), Head::Int)?);
+    assert!(rt; !can_be(rt.alloc(), Head::Bool)?);
+    Ok(())
+}
