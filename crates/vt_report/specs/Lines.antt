@@ -1,7 +1,7 @@
 use Rattle.std.specs.Prelude.{ℕ, List, [], ◌∷◌, ◌++◌, codes, decimal}
 use Rattle.vt_lex.specs.declared.place.LineCol.{LineCol}
 use Rattle.vt_report.specs.declared.refusal.Refusal.{Refusal}
-use Rattle.vt_report.specs.declared.refusal.Refusal.TheVariants.{TooLong, NotText, BadCharacter, OpenString, BigNumber, Unexpected, TooDeep, Unbound, TooManyDimensions, NotYet, TooBigPart}
+use Rattle.vt_report.specs.declared.refusal.Refusal.TheVariants.{TooLong, NotText, BadCharacter, OpenString, BigNumber, Unexpected, TooDeep, Unbound, TooManyDimensions, TooBigPart}
 
 -- a text, and the end of its line
 abbrev pub line : List ℕ → List ℕ
@@ -22,5 +22,4 @@ refusal_line (Unexpected at token) = placed at (codes "unexpected " ++ token)
 refusal_line (TooDeep at) = placed at (codes "nested too deep")
 refusal_line (Unbound at name) = placed at (codes "unbound name " ++ name)
 refusal_line (TooManyDimensions at) = placed at (codes "more than 64 dimensions")
-refusal_line NotYet = line (codes "not supported yet")
 refusal_line (TooBigPart name) = line (codes "type of " ++ name ++ codes " has more than 4096 nodes")

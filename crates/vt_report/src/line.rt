@@ -19,7 +19,6 @@ pub fn refusal_line(alloc: Global, refusal: &Refusal) -> Result<String, AllocErr
         Refusal::TooDeep { at } => at_place(alloc, *at, "nested too deep", ""),
         Refusal::Unbound { at, name } => at_place(alloc, *at, "unbound name ", name.as_str()),
         Refusal::TooManyDimensions { at } => at_place(alloc, *at, "more than 64 dimensions", ""),
-        Refusal::NotYet => fixed(alloc, "not supported yet"),
         Refusal::TooBigPart { name } => too_big(alloc, name.as_str()),
     }
 }

@@ -21,8 +21,6 @@ pub enum Refusal {
     Unbound { at: LineCol, name: Word },
     /// The first occurrence of one dimension more than a file may have.
     TooManyDimensions { at: LineCol },
-    /// A form whose type is not worked out yet.
-    NotYet,
     /// The type of a part has more nodes than are printed. The main expression is named `-`.
     TooBigPart { name: Word },
 }

@@ -1,16 +1,22 @@
-use Rattle.std.proofs.Common.{◌≡◌, ℕ, ◌+◌, ◌<◌, ◌≤◌, ◌⊎◌, inl, inr, List, ◌∷◌, length, replicate, Option, Some, None, IfSome, arith, refl, sym, subst}
+use Rattle.std.proofs.Common.{◌≡◌, ℕ, ◌+◌, ◌<◌, inl, inr, List, length, replicate, Option, Some, None, IfSome, arith, refl, sym, subst, ap, ◌∙◌, Result, Err, IfErr}
+use Rattle.std.proofs.lemmas.Result.{err_from_is_err_and}
+use Rattle.std.specs.Result.{IsErrAnd}
 use Rattle.std.proofs.lemmas.List.{length-replicate}
-use Rattle.vt_io.specs.Counts.{Rose}
-use Rattle.vt_io.specs.Written.{Grows, GrowsByFront}
+use Rattle.vt_io.specs.Written.{Grows}
 use Rattle.vt_top.specs.declared.status.Status.{Status}
 use Rattle.vt_top.specs.declared.status.Status.TheVariants.{Done, Untyped, Usage, Refused, ReadFault, WriteFault, NoMemory}
-use Rattle.vt_top.specs.declared.refusal.Refusal.{Refusal}
-use Rattle.vt_top.specs.declared.refusal.Refusal.TheVariants.{TooBig}
-use Rattle.vt_top.specs.Spelling.{Program, Spells}
-use Rattle.vt_top.specs.Normal.{ProgramAnswer}
-use Rattle.vt_top.specs.Lines.{refusal_line}
+use Rattle.vt_top.specs.declared.stop.Stop.{Stop}
+use Rattle.vt_top.specs.declared.stop.Stop.TheVariants as stops
+use Rattle.vt_type.specs.declared.vtype.VType.{VType}
+use Rattle.vt_type.specs.Text.{text_of}
+use Rattle.vt_syntax.specs.declared.core_program.CoreProgram.{CoreProgram}
+use Rattle.vt_report.specs.declared.refusal.Refusal.{Refusal}
+use Rattle.vt_report.specs.declared.refusal.Refusal.TheVariants.{TooLong, NotText, BadCharacter, OpenString, BigNumber, Unexpected, TooDeep, Unbound, TooManyDimensions, TooBigPart}
+use Rattle.vt_report.specs.Lines.{line, refusal_line}
 use Rattle.vt_top.specs.Words.{Command, TypeOf, command_of}
-use Rattle.vt_top.specs.Answers.{Holds, IsRefused, IsTyped, FileAnswer, Out, Call, Prepares, Answers, IsWritten}
+use Rattle.vt_top.specs.Refusals.{IsRefused}
+use Rattle.vt_top.specs.Answers.{Holds, IsTyped, FileAnswer, Out, Call, Prepares, Answers, IsWritten}
+use Rattle.vt_top.specs.Steps.{IsStop, IsStopOf, IsReadAs, IsMainType, IsPrinted}
 
 no_read_fault : (command : Option Command) (held : List ℕ → Option (List ℕ)) (text : List ℕ) → Out command held ReadFault text → ⊥
 no_read_fault None held text out = let e = out.0 in cc
@@ -58,13 +64,40 @@ too_long_bytes None limit h = (replicate (limit + 1) 0, tt, simp length-replicat
 pub refused_answer : (bytes : List ℕ) (refusal : Refusal) (status : Status) (text : List ℕ) → IsRefused bytes refusal → (status ≡ Refused) × (text ≡ refusal_line refusal) → FileAnswer bytes status text
 refused_answer bytes refusal status text refused is = subst (λ s. FileAnswer bytes s text) (sym is.0) (refusal, refused, is.1)
 
--- The answer of the program that a file spells is that of the file.
-pub program_answers : (bytes : List ℕ) (program : Program) (status : Status) (text : List ℕ) → length bytes ≤ 262144 → Spells bytes program → ProgramAnswer program status text → FileAnswer bytes status text
-program_answers bytes program status text within spelled (inl (type, normal, small, printed)) =
-    let typed : IsTyped bytes type text = record { program = program; within = within; spelled = spelled; normal = normal; small = small; shown = printed.0 } in
+-- The printed type of a file is its answer.
+pub typed_answer : (bytes : List ℕ) (type : VType) (dims : List (List ℕ)) (core : CoreProgram) (status : Status) (text : List ℕ)
+    → IsReadAs bytes core dims → IsMainType core type → IsPrinted dims type status text → FileAnswer bytes status text
+typed_answer bytes type dims core status text read main printed =
+    let typed : IsTyped bytes type text = record {
+      program = read.program;
+      core = core;
+      resolved = read.resolved;
+      parts = main.parts;
+      normal = main.normal;
+      small = main.small;
+      shown = printed.0 ∙ ap (λ names. line (text_of names type)) read.named;
+    } in
     elim (printed.1) [
       | inl done ↦ subst (λ s. FileAnswer bytes s text) (sym done.0) (type, typed, done.1)
       | inr untyped ↦ subst (λ s. FileAnswer bytes s text) (sym untyped.0) (type, typed, untyped.1)
     ]
-program_answers bytes program status text within spelled (inr (type, normal, large, refused, line)) =
-    refused_answer bytes TooBig status text (program, type, within, spelled, normal, large) (refused, line)
+
+-- What stops a program in scope from being printed stops its file.
+pub stop_of_file : (bytes : List ℕ) (core : CoreProgram) (dims : List (List ℕ)) (stop : Stop) → IsReadAs bytes core dims → IsStopOf core stop → IsStop bytes stop
+stop_of_file bytes core dims (stops.Refused (TooBigPart name)) read h = (read.program, core, h.0, read.resolved, h.1, h.2)
+stop_of_file bytes core dims (stops.Refused TooLong) read h = absurd h
+stop_of_file bytes core dims (stops.Refused (NotText at)) read h = absurd h
+stop_of_file bytes core dims (stops.Refused (BadCharacter at)) read h = absurd h
+stop_of_file bytes core dims (stops.Refused (OpenString at)) read h = absurd h
+stop_of_file bytes core dims (stops.Refused (BigNumber at)) read h = absurd h
+stop_of_file bytes core dims (stops.Refused (Unexpected at spelling)) read h = absurd h
+stop_of_file bytes core dims (stops.Refused (TooDeep at)) read h = absurd h
+stop_of_file bytes core dims (stops.Refused (Unbound at name)) read h = absurd h
+stop_of_file bytes core dims (stops.Refused (TooManyDimensions at)) read h = absurd h
+stop_of_file bytes core dims stops.Memory read h = tt
+
+-- An error that is handed on is the one that was given.
+pub exit_with : {A : Type 0} (r : Result A Stop) (P : Stop → Type 0) (stop : Stop) → IsErrAnd r (λ own. own ≡ stop) → P stop → IfErr r P
+exit_with r P stop exit h =
+    let own = err_from_is_err_and r exit in
+    subst (λ one. IfErr one P) (sym (own.1 ∙ ap Err own.2)) h

@@ -1,6 +1,6 @@
-pub mod Numbers
 pub mod AnswerLaws
-pub mod NormalLaws
-pub mod ReadingWords
-pub mod ReadingLiterals
-pub mod ReadingLaws
+pub mod NamedDimensions
+pub mod PartTypes
+pub mod EventPlaces
+pub mod ScopeRefusals
+pub mod OneAnswer

@@ -1,39 +1,40 @@
-use Rattle.std.specs.Prelude.{◌≡◌, ◌≢◌, ℕ, ◌+◌, ◌<◌, ◌≤◌, ◌⊎◌, List, [], ◌∷◌, ◌++◌, length, Option, Some, None, IfSome, IsSome, IsSomeAnd, Contains}
+use Rattle.std.specs.Prelude.{◌≡◌, ℕ, ◌+◌, ◌<◌, ◌≤◌, ◌⊎◌, List, length, Option, Some, None, IfSome, IsSome, IsSomeAnd, Contains}
 use Rattle.vt_io.specs.Counts.{Rose}
 use Rattle.vt_io.specs.Written.{Grows, GrowsByFront}
 use Rattle.vt_type.specs.declared.vtype.VType.{VType}
+use Rattle.vt_type.specs.Constants.{core_constants}
 use Rattle.vt_type.specs.Variational.{HasError, nodes}
 use Rattle.vt_type.specs.NormalForm.{IsNormalFormOf}
 use Rattle.vt_type.specs.Text.{text_of}
+use Rattle.vt_syntax.specs.declared.program.Program.{Program}
+use Rattle.vt_syntax.specs.declared.core_program.CoreProgram.{CoreProgram}
+use Rattle.vt_scope.specs.Faults.{dims_of}
+use Rattle.vt_rules.specs.Meaning.{Means}
+use Rattle.vt_report.specs.declared.refusal.Refusal.{Refusal}
+use Rattle.vt_report.specs.Lines.{line, refusal_line}
 use Rattle.vt_top.specs.declared.status.Status.{Status}
 use Rattle.vt_top.specs.declared.status.Status.TheVariants.{Done, Untyped, Usage, Refused, ReadFault, WriteFault, NoMemory}
-use Rattle.vt_top.specs.declared.refusal.Refusal.{Refusal}
-use Rattle.vt_top.specs.declared.refusal.Refusal.TheVariants.{TooLong, NotYet, TooBig}
-use Rattle.vt_top.specs.Lines.{line, usage_line, read_fault_line, no_memory_line, refusal_line}
+use Rattle.vt_top.specs.Lines.{usage_line, read_fault_line, no_memory_line}
 use Rattle.vt_top.specs.Words.{Command, TypeOf, command_of, files_named}
-use Rattle.vt_top.specs.Spelling.{Program, Spells}
-use Rattle.vt_top.specs.Meaning.{Means, dimensions}
+use Rattle.vt_top.specs.Files.{IsResolved}
+use Rattle.vt_top.specs.Parts.{most_nodes, IsFitting}
+use Rattle.vt_top.specs.Refusals.{IsRefused}
 
 -- these bytes are held, where it is told what is
 abbrev pub Holds : Option (List ℕ) → List ℕ → Type 0
 Holds held bytes = IfSome held (λ all. all ≡ bytes)
 
--- Which refusal a file meets: the first of these that holds.
-abbrev pub IsRefused : List ℕ → Refusal → Type 0
-IsRefused bytes TooLong = 262144 < length bytes
-IsRefused bytes NotYet = (length bytes ≤ 262144) × ((program : Program) → Spells bytes program → ⊥)
-IsRefused bytes TooBig =
-    (program : Program) × (type : VType) × (length bytes ≤ 262144) × Spells bytes program
-    × IsNormalFormOf type (Means program) × (4096 < nodes type)
-
--- The file spells a program, and the text is that of the normal form of what the program means.
+-- The file is a program in scope, no part of it has a type that is too big, and the text is that of the
+-- normal form of what the program means: at each decision the canonical principal type of the program
+-- that it selects, or the error where that has none.
 pub record IsTyped (bytes : List ℕ) (type : VType) (text : List ℕ) : Type 0 where
   pub program : Program
-  pub within : length bytes ≤ 262144
-  pub spelled : Spells bytes program
-  pub normal : IsNormalFormOf type (Means program)
-  pub small : nodes type ≤ 4096
-  pub shown : text ≡ line (text_of (dimensions program) type)
+  pub core : CoreProgram
+  pub resolved : IsResolved bytes program core
+  pub parts : (part : ℕ) → part < length core.defs → IsFitting core part
+  pub normal : IsNormalFormOf type (Means core_constants core)
+  pub small : nodes type ≤ most_nodes
+  pub shown : text ≡ line (text_of (dims_of program) type)
 
 -- The defined answers of a file: a status and a text.
 abbrev pub FileAnswer : List ℕ → Status → List ℕ → Type 0

@@ -1,9 +1,10 @@
 pub mod Status
 pub mod Lines
 pub mod Words
-pub mod Spelling
-pub mod Meaning
-pub mod Reading
+pub mod Files
+pub mod Parts
+pub mod Refusals
 pub mod Faults
-pub mod Normal
 pub mod Answers
+pub mod Steps
+pub mod Laws

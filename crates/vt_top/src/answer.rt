@@ -1,32 +1,28 @@
 //! The answer of the words, before it is written.
-ghost use Rattle.std.specs.Prelude.{◌≡◌, ◌≤◌, List, ℕ, length, map, IsSome, Contains, IfOk, IsErrOf, string_bytes};
+ghost use Rattle.std.specs.Prelude.{◌≡◌, ◌<◌, ◌≤◌, List, ℕ, length, IsSome, Contains, IfOk, IfErr, IsErrOf, string_bytes};
 ghost use Rattle.std.specs.Option.{option_map};
 ghost use Rattle.vt_io.specs.Counts.{Rose};
-ghost use Rattle.vt_top.specs.Lines.{usage_line, refusal_line};
-ghost use Rattle.vt_top.specs.Words.{texts, TypeOf, command_of, files_named};
-ghost use Rattle.vt_top.specs.Reading.{program_in};
-ghost use Rattle.vt_top.specs.Meaning.{dimensions};
-ghost use Rattle.vt_top.specs.Normal.{typed_as, literal_type, IsPrinted, ProgramAnswer};
 ghost use Rattle.vt_type.specs.Variational.{IsWellFormedV};
 ghost use Rattle.vt_show.specs.Conditions.{DimsBelow};
+ghost use Rattle.vt_report.specs.Lines.{refusal_line};
+ghost use Rattle.vt_top.specs.Lines.{usage_line};
+ghost use Rattle.vt_top.specs.Words.{texts, TypeOf, command_of, files_named};
+ghost use Rattle.vt_top.specs.Steps.{IsStop, IsPrinted};
 ghost use Rattle.vt_top.specs.Answers.{Out, FileAnswer, GrewByAtMost};
 
-use crate::refusal::Refusal;
-use crate::source::{Literal, Source};
-use crate::{Status, reader};
+use crate::Status;
+use crate::reading::read;
+use crate::stop::Stop;
+use crate::typing::main_type;
 use std::alloc::{AllocError, Global};
 use thiserror::Error;
-use vt_dec::Dim;
 use vt_io::{FetchFault, Fetched, Files};
-use vt_norm::{NormalFault, normal_within};
+use vt_report::{Refusal, refusal_line};
 use vt_show::show_type;
-use vt_type::{Head, Names, Tables, VKids, VType};
+use vt_type::{Tables, VType};
 
 /// The most bytes that a file may have.
 const LARGEST_FILE: usize = 262144;
-
-/// The most nodes that a printed type may have.
-const LARGEST_TYPE: u64 = 4096;
 
 /// A status and the text that goes with it.
 #[derive(Debug, Drop)]
@@ -83,7 +79,7 @@ pub fn prepare<F: Files>(alloc: Global, words: &[String], files: &mut F) -> Resu
         return Ok(usage(alloc)?);
     };
     match files.fetch(alloc, name, LARGEST_FILE)? {
-        Fetched::TooLong => Ok(refused(alloc, Refusal::TooLong)?),
+        Fetched::TooLong => Ok(refused(alloc, &Refusal::TooLong)?),
         Fetched::Whole(bytes) => Ok(file_answer(alloc, bytes.as_slice())?),
     }
 }
@@ -107,17 +103,12 @@ fn usage(alloc: Global) -> Result<Answer, AllocError>
     })
 }
 
-fn refused(alloc: Global, refusal: Refusal) -> Result<Answer, AllocError>
-    ensures { IfOk result (λ a. (a.status ≡ Status.Refused) × (string_bytes a.text ≡ refusal_line refusal)) }
+fn refused(alloc: Global, refusal: &Refusal) -> Result<Answer, AllocError>
+    ensures { IfOk result (λ a. (a.status ≡ Status.Refused) × (string_bytes a.text ≡ refusal_line refusal.now)) }
 {
-    let line = match refusal {
-        Refusal::TooLong => "file too long\n",
-        Refusal::NotYet => "not supported yet\n",
-        Refusal::TooBig => "type of - has more than 4096 nodes\n",
-    };
     Ok(Answer {
         status: Status::Refused,
-        text: String::from_str(alloc, line)?,
+        text: refusal_line(alloc, refusal)?,
     })
 }
 
@@ -126,27 +117,26 @@ fn file_answer(alloc: Global, bytes: &[u8]) -> Result<Answer, AllocError>
     requires { length bytes.now ≤ 262144 }
     ensures { IfOk result (λ a. FileAnswer bytes.now a.status (string_bytes a.text)) }
 {
-    match reader::read(bytes) {
-        None => refused(alloc, Refusal::NotYet),
-        Some(source) => program_answer(alloc, &source),
+    match typed(alloc, bytes) {
+        Ok(answer) => Ok(answer),
+        Err(Stop::Refused(refusal)) => refused(alloc, &refusal),
+        Err(Stop::Memory) => Err(AllocError),
     }
 }
 
-// The answer of a program.
-fn program_answer(alloc: Global, source: &Source<'_>) -> Result<Answer, AllocError>
-    ensures { IfOk result (λ a. ProgramAnswer (program_in source.now) a.status (string_bytes a.text)) }
+// The answer of a file whose type is printed.
+fn typed(alloc: Global, bytes: &[u8]) -> Result<Answer, Stop>
+    requires { length bytes.now ≤ 262144 }
+    ensures answer { IfOk result (λ a. FileAnswer bytes.now a.status (string_bytes a.text)) }
+    ensures stopped { IfErr result (IsStop bytes.now) }
 {
-    let whole = type_of(alloc, source)?;
-    let tables = tables_of(alloc, source)?;
-    match normal_within(alloc, &whole, LARGEST_TYPE) {
-        Ok(normal) => typed(alloc, &normal, &tables),
-        Err(NormalFault::TooBig) => refused(alloc, Refusal::TooBig),
-        Err(NormalFault::Memory) => Err(AllocError),
-    }
+    let resolved = read(alloc, bytes)?;
+    let normal = main_type(alloc, &resolved)?;
+    Ok(printed(alloc, &normal, &resolved.tables)?)
 }
 
 // The answer that prints a type.
-fn typed(alloc: Global, normal: &VType, tables: &Tables) -> Result<Answer, AllocError>
+fn printed(alloc: Global, normal: &VType, tables: &Tables) -> Result<Answer, AllocError>
     requires well_formed { IsWellFormedV normal.now }
     requires named { DimsBelow (length tables.now.dims) normal.now }
     ensures { IfOk result (λ a. IsPrinted tables.now.dims normal.now a.status (string_bytes a.text)) }
@@ -159,39 +149,4 @@ fn typed(alloc: Global, normal: &VType, tables: &Tables) -> Result<Answer, Alloc
         Status::Done
     };
     Ok(Answer { status, text })
-}
-
-// The type of a program as its parts have it, which may be no normal form.
-fn type_of(alloc: Global, source: &Source<'_>) -> Result<VType, AllocError>
-    ensures { IfOk result (λ whole. whole ≡ typed_as (program_in source.now)) }
-{
-    match source {
-        Source::Literal(literal) => Ok(literal_type(literal)),
-        Source::Choice(_, left, right) => {
-            VType::choice(alloc, Dim(0), literal_type(left), literal_type(right))
-        }
-    }
-}
-
-fn literal_type(literal: &Literal) -> VType
-    ensures { result ≡ literal_type literal.now }
-{
-    match literal {
-        Literal::Number(_) => VType::Con(Head::Int, VKids::Nil),
-        Literal::Truth(_) => VType::Con(Head::Bool, VKids::Nil),
-    }
-}
-
-// The names of the dimensions.
-fn tables_of(alloc: Global, source: &Source<'_>) -> Result<Tables, AllocError>
-    ensures { IfOk result (λ tables. tables.dims ≡ dimensions (program_in source.now)) }
-{
-    let mut dims = Names::new(alloc);
-    if let Source::Choice(name, _, _) = source {
-        dims.add(name)?;
-    }
-    Ok(Tables {
-        dims,
-        datas: Names::new(alloc),
-    })
 }

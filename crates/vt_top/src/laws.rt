@@ -1,9 +1,11 @@
-//! What follows from the contract of [`run`](crate::run) over files and a sink in memory.
+//! What follows from the contract of [`run`](crate::run) over files and a sink in memory, and that a file
+//! has one answer.
 ghost use Rattle.std.specs.Prelude.{◌≡◌, ◌-◌, ◌^◌, ◌<◌, ◌≤◌, List, ℕ, length, Some, None, IsSome, Contains};
 ghost use Rattle.vt_io.specs.Memory.{IsCalm, held_in, faults_in};
 ghost use Rattle.vt_top.specs.Lines.{no_memory_line};
 ghost use Rattle.vt_top.specs.Words.{texts, command_of, files_named};
 ghost use Rattle.vt_top.specs.Answers.{Out, call_of, IsComplete};
+ghost use Rattle.vt_top.specs.Laws.{HasOneAnswer};
 ghost use Rattle.vt_top.specs.declared.status.Status.{Status as Ending};
 
 use crate::{Status, run};
@@ -28,3 +30,9 @@ pub fn run_in_memory(
 {
     run(alloc, words, files, sink)
 }
+
+/// A file has no two defined answers: each refusal and each printed type comes exactly where its
+/// definition says.
+pub fn one_answer()
+    ensures { HasOneAnswer }
+{}

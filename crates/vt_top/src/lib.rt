@@ -7,13 +7,16 @@
 mod answer;
 mod entry;
 pub mod laws;
-mod reader;
-mod refusal;
-mod source;
+mod places;
+mod reading;
 mod status;
+mod stop;
+mod typing;
 
 pub use entry::run;
 pub use status::Status;
 
+#[cfg(test)]
+mod example_tests;
 #[cfg(test)]
 mod tests;

@@ -9,7 +9,7 @@ const LONGEST: usize = 262144;
 fn answer(alloc: Global, words: &[&str], file: &[u8]) -> Result<(Status, MemSink), AllocError> {
     let mut files = MemFiles::new(alloc);
     files.add("f", file)?;
-    let mut sink = MemSink::with_room(alloc, 1000)?;
+    let mut sink = MemSink::with_room(alloc, 100000)?;
     let words = owned(alloc, words)?;
     let status = run(alloc, &words, &mut files, &mut sink);
     Ok((status, sink))
@@ -22,56 +22,245 @@ fn owned(alloc: Global, words: &[&str]) -> Result<Vec<String>, AllocError> {
         .try_collect(alloc)
 }
 
+// The type of the file is printed so.
+pub fn prints(alloc: Global, file: &str, text: &str) -> Result<bool, AllocError> {
+    let (status, sink) = answer(alloc, &["type", "f"], file.as_bytes())?;
+    Ok(status == Status::Done && sink.bytes() == text.as_bytes())
+}
+
+// The file is refused by this line.
+pub fn refuses(alloc: Global, file: &str, line: &str) -> Result<bool, AllocError> {
+    refuses_bytes(alloc, file.as_bytes(), line)
+}
+
+fn refuses_bytes(alloc: Global, file: &[u8], line: &str) -> Result<bool, AllocError> {
+    let (status, sink) = answer(alloc, &["type", "f"], file)?;
+    Ok(status == Status::Refused && sink.bytes() == line.as_bytes())
+}
+
 #[test]
 fn types_are_printed(rt: HostRuntime) -> Result<(), Fail> {
     let alloc = rt.alloc();
     for (file, text) in [
         ("1", "Int\n"),
         (" true\r\n", "Bool\n"),
-        ("false", "Bool\n"),
+        ("(false)", "Bool\n"),
         ("9223372036854775807", "Int\n"),
         ("@A{1, true}", "@A{Int, Bool}\n"),
         ("@A{1, 2}", "Int\n"),
-        ("@B{true,false}\n", "Bool\n"),
         ("\t@_x9 { 0012 , false } ", "@_x9{Int, Bool}\n"),
         ("@let{true, 1}", "@let{Bool, Int}\n"),
-        ("@true{true, 1}", "@true{Bool, Int}\n"),
+        ("@\u{c9}t\u{e9}{1, true}", "@\u{c9}t\u{e9}{Int, Bool}\n"),
+        ("# a comment\r\n1 # and one more", "Int\n"),
+        ("(1, (true, 2))", "Int * (Bool * Int)\n"),
     ] {
-        let (status, sink) = answer(alloc, &["type", "f"], file.as_bytes())?;
-        assert_eq!(rt; status, Status::Done, "{file}");
-        assert_eq!(rt; sink.bytes(), text.as_bytes(), "{file}");
+        assert!(rt; prints(alloc, file, text)?, "{file}");
     }
     Ok(())
 }
 
 #[test]
-fn other_files_are_not_supported_yet(rt: HostRuntime) -> Result<(), Fail> {
+fn choices_are_joined_and_stand_deep(rt: HostRuntime) -> Result<(), Fail> {
     let alloc = rt.alloc();
-    for file in [
-        "",
-        " \n",
-        "# only a comment\n",
-        "succ 1",
-        "1 # one",
-        "9223372036854775808",
-        "1 2",
-        "12ab",
-        "truex",
-        "-1",
-        "(1)",
-        "@ A{1, true}",
-        "@A{1}",
-        "@A{1, true} 2",
-        "@A{@B{1, 2}, true}",
-        "@9{1, true}",
-        "\u{feff}1",
+    for (file, text) in [
+        (
+            "(@A{1, true}, @A{1, true})",
+            "@A{Int, Bool} * @A{Int, Bool}\n",
+        ),
+        ("@B{@A{1, true}, @A{2, true}}", "@A{Int, Bool}\n"),
+        ("@A{@A{1, true}, (1, true)}", "@A{Int, Int * Bool}\n"),
+        ("@A{@A{1, (1, 2)}, true}", "@A{Int, Bool}\n"),
     ] {
-        let (status, sink) = answer(alloc, &["type", "f"], file.as_bytes())?;
-        assert_eq!(rt; status, Status::Refused, "{file}");
-        assert_eq!(rt; sink.bytes(), b"not supported yet\n".as_slice(), "{file}");
+        assert!(rt; prints(alloc, file, text)?, "{file}");
     }
-    let (status, _sink) = answer(alloc, &["type", "f"], b"\x31\xff")?;
-    assert_eq!(rt; status, Status::Refused);
+    Ok(())
+}
+
+#[test]
+fn files_that_are_no_program_are_refused(rt: HostRuntime) -> Result<(), Fail> {
+    let alloc = rt.alloc();
+    for (file, line) in [
+        ("", "1:1 unexpected end of text\n"),
+        (" \n", "2:1 unexpected end of text\n"),
+        ("# only", "1:7 unexpected end of text\n"),
+        ("@A{1,", "1:6 unexpected end of text\n"),
+        ("1 = 2 = 3", "1:7 unexpected =\n"),
+        ("\u{e9} )", "1:3 unexpected )\n"),
+        ("1 & 2", "1:3 bad character\n"),
+        ("\u{feff}1", "1:1 bad character\n"),
+        ("9223372036854775808", "1:1 number too large\n"),
+        ("\"ab", "1:1 string not closed\n"),
+    ] {
+        assert!(rt; refuses(alloc, file, line)?, "{file}");
+    }
+    assert!(rt; refuses_bytes(alloc, b"\x31\xff", "not UTF-8 at byte 1\n")?);
+    Ok(())
+}
+
+#[test]
+fn files_out_of_scope_are_refused(rt: HostRuntime) -> Result<(), Fail> {
+    let alloc = rt.alloc();
+    for (file, line) in [
+        ("@A{@A{1, q}, 2}", "1:10 unbound name q\n"),
+        ("(\u{e9},\n q)", "1:2 unbound name \u{e9}\n"),
+        ("def x = x; 1", "1:9 unbound name x\n"),
+    ] {
+        assert!(rt; refuses(alloc, file, line)?, "{file}");
+    }
+    Ok(())
+}
+
+// What stands earlier in the order of reading is refused first.
+#[test]
+fn refusals_come_in_order(rt: HostRuntime) -> Result<(), Fail> {
+    let alloc = rt.alloc();
+    for (file, line) in [
+        ("q & )", "1:3 bad character\n"),
+        ("(q", "1:3 unexpected end of text\n"),
+        ("succ q", "1:6 unbound name q\n"),
+    ] {
+        assert!(rt; refuses(alloc, file, line)?, "{file}");
+    }
+    assert!(rt; refuses_bytes(alloc, b"& \xff", "not UTF-8 at byte 2\n")?);
+    Ok(())
+}
+
+// The type of the file is printed so, with the error in it.
+fn prints_error(alloc: Global, file: &str, text: &str) -> Result<bool, AllocError> {
+    let (status, sink) = answer(alloc, &["type", "f"], file.as_bytes())?;
+    Ok(status == Status::Untyped && sink.bytes() == text.as_bytes())
+}
+
+#[test]
+fn every_form_is_typed(rt: HostRuntime) -> Result<(), Fail> {
+    let alloc = rt.alloc();
+    for (file, text) in [
+        ("succ 1", "Int\n"),
+        ("@A{succ, not} @A{1, true}", "@A{Int, Bool}\n"),
+        ("fun x -> @A{x, 1}", "'a -> @A{'a, Int}\n"),
+        ("@A{@A{1, true}, \"s\"}", "@A{Int, String}\n"),
+        ("@A{@A{1, 1 true}, 2}", "Int\n"),
+        ("@A{fun x -> 1, fun x -> true}", "'a -> @A{Int, Bool}\n"),
+        ("let rec f = fun x -> x in (f 1, f true)", "Int * Bool\n"),
+        ("def x = ?; [x; 1]", "[Int]\n"),
+    ] {
+        assert!(rt; prints(alloc, file, text)?, "{file}");
+    }
+    Ok(())
+}
+
+#[test]
+fn variants_without_a_type_are_errors(rt: HostRuntime) -> Result<(), Fail> {
+    let alloc = rt.alloc();
+    for (file, text) in [
+        ("@A{succ, not} @B{1, true}", "@A{@B{Int, !}, @B{!, Bool}}\n"),
+        (
+            "fun y -> let f = fun z -> @A{if true then y else z, z} in (f 1, f true)",
+            "@A{!, 'a -> Int * Bool}\n",
+        ),
+        ("fun x -> @A{x x, x}", "@A{!, 'a -> 'a}\n"),
+        ("let x = 1 true in 2", "!\n"),
+    ] {
+        assert!(rt; prints_error(alloc, file, text)?, "{file}");
+    }
+    Ok(())
+}
+
+// Definitions, each the pair of the one before twice, and the first one.
+fn pairs(alloc: Global, count: u32) -> Result<String, AllocError> {
+    let mut file = String::from_str(alloc, "def x0 = 1;\n")?;
+    for n in 1..=count {
+        let before = n - 1;
+        writeln!(file, "def x{n} = (x{before}, x{before});")?;
+    }
+    file.push_str("x0")?;
+    Ok(file)
+}
+
+#[test]
+fn the_first_part_that_is_too_big_is_named(rt: HostRuntime) -> Result<(), Fail> {
+    let alloc = rt.alloc();
+    let line = "type of x12 has more than 4096 nodes\n";
+    assert!(rt; refuses(alloc, &pairs(alloc, 12)?, line)?);
+    assert!(rt; prints(alloc, &pairs(alloc, 11)?, "Int\n")?);
+    Ok(())
+}
+
+// So many opening parentheses.
+fn open(alloc: Global, count: usize) -> Result<Vec<u8>, AllocError> {
+    vec![in alloc; b'('; count]
+}
+
+#[test]
+fn the_limit_on_the_depth_is_exact(rt: HostRuntime) -> Result<(), Fail> {
+    let alloc = rt.alloc();
+    assert!(rt; refuses_bytes(alloc, &open(alloc, 256)?, "1:256 nested too deep\n")?);
+    assert!(rt; refuses_bytes(alloc, &open(alloc, 255)?, "1:256 unexpected end of text\n")?);
+    Ok(())
+}
+
+// A definition with a dimension of its own on each of so many lines, and a number.
+fn dimensions(alloc: Global, count: u32) -> Result<String, AllocError> {
+    let mut file = String::new(alloc);
+    for n in 1..=count {
+        writeln!(file, "def y = @D{n}{{1, 2}};")?;
+    }
+    file.push_str("1")?;
+    Ok(file)
+}
+
+#[test]
+fn the_limit_on_dimensions_is_exact(rt: HostRuntime) -> Result<(), Fail> {
+    let alloc = rt.alloc();
+    assert!(rt; prints(alloc, &dimensions(alloc, 64)?, "Int\n")?);
+    let more = "65:9 more than 64 dimensions\n";
+    assert!(rt; refuses(alloc, &dimensions(alloc, 65)?, more)?);
+    Ok(())
+}
+
+// A text within so many choices, each with a dimension of its own.
+fn chosen(alloc: Global, count: u32, first: &str, last: &str) -> Result<String, AllocError> {
+    let mut text = String::from_str(alloc, last)?;
+    for n in 1..=count {
+        text = format!(in alloc; "@D{n}{{{first}, {text}}}")?;
+    }
+    Ok(text)
+}
+
+// So many times the pair of what was before.
+fn doubled(alloc: Global, count: u32) -> Result<String, AllocError> {
+    let mut text = String::from_str(alloc, "1")?;
+    for _ in 0..count {
+        text = format!(in alloc; "({text}, {text})")?;
+    }
+    Ok(text)
+}
+
+// The text of the type of that.
+fn doubled_type(alloc: Global, count: u32) -> Result<String, AllocError> {
+    let mut text = String::from_str(alloc, "Int * Int")?;
+    for _ in 1..count {
+        text = format!(in alloc; "({text}) * ({text})")?;
+    }
+    text.push_str("\n")?;
+    Ok(text)
+}
+
+#[test]
+fn many_dimensions_are_nested(rt: HostRuntime) -> Result<(), Fail> {
+    let alloc = rt.alloc();
+    let mut text = chosen(alloc, 60, "Int", "Bool")?;
+    text.push_str("\n")?;
+    assert!(rt; prints(alloc, &chosen(alloc, 60, "1", "true")?, &text)?);
+    Ok(())
+}
+
+#[test]
+fn the_limit_on_types_is_exact(rt: HostRuntime) -> Result<(), Fail> {
+    let alloc = rt.alloc();
+    assert!(rt; prints(alloc, &doubled(alloc, 11)?, &doubled_type(alloc, 11)?)?);
+    let line = "type of - has more than 4096 nodes\n";
+    assert!(rt; refuses(alloc, &doubled(alloc, 12)?, line)?);
     Ok(())
 }
 

@@ -1,4 +1,4 @@
-use Rattle.vt_top.specs.declared.refusal.Refusal.TheVariants.{TooLong}
+use Rattle.vt_report.specs.declared.refusal.Refusal.TheVariants.{TooLong}
 use Rattle.vt_top.proofs.AnswerLaws.{too_long_bytes, refused_answer}
 use Rattle.vt_top.proofs.answer.prepare.Goals as goal
 

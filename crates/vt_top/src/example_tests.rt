@@ -1,0 +1,106 @@
+//! The examples of the documents, and limits that only larger files meet.
+use crate::tests::{prints, refuses};
+use std::alloc::{AllocError, Global};
+use std::test::Fail;
+
+#[test]
+fn the_forms_of_the_language_have_these_types(rt: HostRuntime) -> Result<(), Fail> {
+    let alloc = rt.alloc();
+    for (file, text) in [
+        ("42", "Int\n"),
+        ("\"a\\\"b\"", "String\n"),
+        ("?", "'a\n"),
+        ("fun x -> x", "'a -> 'a\n"),
+        ("fst (1, true)", "Int\n"),
+        ("let f = fun x -> x in (f 1, f true)", "Int * Bool\n"),
+        (
+            "let rec f = fun n -> if n = 0 then 0 else f (n - 1) in f",
+            "Int -> Int\n",
+        ),
+        ("if 1 < 2 then \"a\" else \"b\"", "String\n"),
+        (
+            "fun l -> match l with [] -> 0 | x :: xs -> x",
+            "[Int] -> Int\n",
+        ),
+        ("[1; 2; 3]", "[Int]\n"),
+        ("def id = fun x -> x; id 1", "Int\n"),
+        ("def rec f = fun x -> f x; f", "'a -> 'b\n"),
+        ("fun \u{e9}t\u{e9} -> \u{e9}t\u{e9}", "'a -> 'a\n"),
+        ("@A{[1], [true]}", "[@A{Int, Bool}]\n"),
+        ("@if{1, true}", "@if{Int, Bool}\n"),
+    ] {
+        assert!(rt; prints(alloc, file, text)?, "{file}");
+    }
+    Ok(())
+}
+
+#[test]
+fn the_operators_have_these_types(rt: HostRuntime) -> Result<(), Fail> {
+    let alloc = rt.alloc();
+    for (file, text) in [
+        ("true or false", "Bool\n"),
+        ("true and false", "Bool\n"),
+        ("1 = 2", "Bool\n"),
+        ("1 < 2", "Bool\n"),
+        ("1 :: []", "[Int]\n"),
+        ("\"a\" ^ \"b\"", "String\n"),
+        ("3 - 2 + 1", "Int\n"),
+        ("2 * 3", "Int\n"),
+        ("succ 1 * 2", "Int\n"),
+    ] {
+        assert!(rt; prints(alloc, file, text)?, "{file}");
+    }
+    Ok(())
+}
+
+#[test]
+fn a_recursive_definition_serves_all_variants(rt: HostRuntime) -> Result<(), Fail> {
+    let file =
+        "def rec map = fun f -> fun l ->\n  match l with [] -> [] | x :: xs -> f x :: map f xs;\nmap @Key{succ, not} @Key{[1; 2], [true]}\n";
+    assert!(rt; prints(rt.alloc(), file, "[@Key{Int, Bool}]\n")?);
+    Ok(())
+}
+
+// One text, then another so many times, and a last one.
+fn repeated(
+    alloc: Global,
+    first: &str,
+    more: &str,
+    count: u32,
+    last: &str,
+) -> Result<String, AllocError> {
+    let mut text = String::from_str(alloc, first)?;
+    for _ in 0..count {
+        text.push_str(more)?;
+    }
+    text.push_str(last)?;
+    Ok(text)
+}
+
+#[test]
+fn chains_are_as_deep_as_they_group(rt: HostRuntime) -> Result<(), Fail> {
+    let alloc = rt.alloc();
+    let line = "1:512 nested too deep\n";
+    assert!(rt; prints(alloc, &repeated(alloc, "1", "+1", 255, "")?, "Int\n")?);
+    assert!(rt; refuses(alloc, &repeated(alloc, "1", "+1", 256, "")?, line)?);
+    Ok(())
+}
+
+#[test]
+fn later_elements_of_a_list_are_deeper(rt: HostRuntime) -> Result<(), Fail> {
+    let alloc = rt.alloc();
+    let line = "1:511 nested too deep\n";
+    assert!(rt; prints(alloc, &repeated(alloc, "[1", ";1", 254, "]")?, "[Int]\n")?);
+    assert!(rt; refuses(alloc, &repeated(alloc, "[1", ";1", 255, "]")?, line)?);
+    Ok(())
+}
+
+#[test]
+fn the_limit_counts_types_that_are_shared(rt: HostRuntime) -> Result<(), Fail> {
+    let alloc = rt.alloc();
+    let mut file = repeated(alloc, "", "(fun x -> (x, x)) (", 12, "1")?;
+    file.push_str(&repeated(alloc, "", ")", 12, "")?)?;
+    let line = "type of - has more than 4096 nodes\n";
+    assert!(rt; refuses(alloc, &file, line)?);
+    Ok(())
+}
