@@ -15,11 +15,11 @@
 mod compare;
 mod diagram;
 mod fault;
+mod from_store;
 mod front;
 pub mod laws;
 mod names;
 mod normal_form;
-mod out;
 #[cfg(test)]
 mod out_tests;
 mod pairing;
@@ -36,6 +36,6 @@ mod tests;
 
 pub use compare::equivalent;
 pub use fault::{NormalFault, OutFault};
+pub use from_store::read_out;
 pub use normal_form::{normal, normal_within};
-pub use out::read_out;
 pub use pairing::{PlainPair, read_pair};

@@ -5,7 +5,7 @@ use Rattle.vt_norm.specs.ReadOut.{IsShownFront}
 use Rattle.vt_norm.proofs.Following.{is-of-space, opened-in-part}
 use Rattle.vt_norm.proofs.Naming.{opens, fewer-opens}
 use Rattle.vt_norm.proofs.Showing.{shown-both}
-use Rattle.vt_norm.proofs.out.+shown_front.Goals as goal
+use Rattle.vt_norm.proofs.from_store.+shown_front.Goals as goal
 
 pub with-left-requires : goal.with-left-requires
 with-left-requires t c = opened-in-part c.args.part.now _ _ c.context.ensures.is c.context.ensures.sized c.in-Some.ensures.both.0 c.in-Some.ensures.both.1

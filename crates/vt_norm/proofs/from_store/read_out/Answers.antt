@@ -4,7 +4,7 @@ use Rattle.vt_type.specs.NormalForm.{IsNormalFormOf}
 use Rattle.vt_type.specs.Variational.{IsWellFormedV, nodes}
 use Rattle.vt_norm.specs.ReadOut.{reads}
 use Rattle.vt_norm.proofs.ReadingOut.{shown-places, the-form, both_ok}
-use Rattle.vt_norm.proofs.out.read_out.Goals as goal
+use Rattle.vt_norm.proofs.from_store.read_out.Goals as goal
 
 pub build-requires : goal.build-requires
 build-requires c = record {
