@@ -1,2 +1,3 @@
 pub mod Freezing
 pub mod Copying
+pub mod Merging

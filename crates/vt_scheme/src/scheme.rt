@@ -24,7 +24,8 @@ pub struct Copied {
     pub root: CellId,
 }
 
-/// The part of a store to which the monos and the root lead, as a scheme.
+/// The part of a store to which the monos and the root lead, as a scheme. Equal cells are made one, as
+/// long as that leaves fewer, so that what is copied again and again is small.
 pub fn freeze<const N: usize>(
     alloc: Global,
     store: &Store<N>,
@@ -35,6 +36,27 @@ pub fn freeze<const N: usize>(
     requires root { root < cell_count store.now }
     ensures frozen { IfOk result (IsFrozen N store.now monos.now root) }
 {
+    let mut scheme = taken(alloc, store, monos, root)?;
+    'turns: loop {
+        let merged = merged(alloc, &scheme)?;
+        if scheme.cells.count() <= merged.cells.count() {
+            return Ok(scheme);
+        }
+        scheme = merged;
+    }
+}
+
+/// The part of a store to which the monos and the root lead.
+fn taken<const N: usize>(
+    alloc: Global,
+    store: &Store<N>,
+    monos: &[CellId],
+    root: CellId,
+) -> Result<Scheme<N>, AllocError>
+    requires monos { All (λ cell. cell < cell_count store.now) monos.now }
+    requires root { root < cell_count store.now }
+    ensures { IfOk result (IsFrozen N store.now monos.now root) }
+{
     // What these two ensure is what makes a solution of the part one of the store.
     solutions_of_parts();
     let _space = store.space();
@@ -44,6 +66,19 @@ pub fn freeze<const N: usize>(
         monos: part.cells,
         root: part.root,
     })
+}
+
+/// The scheme with equal cells made one, as far as one look at all cells finds them.
+fn merged<const N: usize>(alloc: Global, scheme: &Scheme<N>) -> Result<Scheme<N>, AllocError>
+    requires { AreCells scheme.now }
+    ensures { IfOk result (IsFrozen N scheme.now.cells scheme.now.monos scheme.now.root) }
+{
+    let shared = scheme.cells.shared(alloc)?;
+    let monos = scheme
+        .monos
+        .represented(alloc, shared.representatives.as_slice())?;
+    let root = shared.representative(scheme.root);
+    taken(alloc, &shared.store, monos.as_slice(), root)
 }
 
 /// Copies a scheme's cells after those of a store. On an error the store's cells are as before.

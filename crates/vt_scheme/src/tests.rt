@@ -49,3 +49,18 @@ fn a_scheme_has_what_its_root_leads_to(rt: HostRuntime) -> Result<(), Fail> {
     assert_eq!(rt; scheme.cells.count(), 4);
     Ok(())
 }
+
+#[test]
+fn equal_cells_of_a_scheme_are_one(rt: HostRuntime) -> Result<(), Fail> {
+    let mut store = Store::<1>::new(rt.alloc(), Space::All);
+    let mut root = store.con(Head::Int, &[])?;
+    for _ in 0..20 {
+        let scheme = freeze(rt.alloc(), &store, &[], root)?;
+        let one = instance(&mut store, &scheme)?;
+        let other = instance(&mut store, &scheme)?;
+        root = store.con(Head::Pair, &[one.root, other.root])?;
+    }
+    let scheme = freeze(rt.alloc(), &store, &[], root)?;
+    assert_eq!(rt; scheme.cells.count(), 21);
+    Ok(())
+}

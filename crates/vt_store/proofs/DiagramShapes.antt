@@ -102,7 +102,7 @@ pub end_in-made : (dim : ℕ) (left right diagram : Diagram) → diagram ≡ cho
     → ◌≡◌ {A = List Side → CellEnd} (λ decision. by_side (slice_get decision dim) (end_in decision left) (end_in decision right)) (λ decision. end_in decision diagram)
 end_in-made dim left right diagram is = λ i decision. end_in decision (sym is i)
 
-same_sides : (side : Option Side) (x : CellEnd) → by_side side x x ≡ x
+pub same_sides : (side : Option Side) (x : CellEnd) → by_side side x x ≡ x
 same_sides (Some Left) x = refl
 same_sides (Some Right) x = refl
 same_sides None x = refl

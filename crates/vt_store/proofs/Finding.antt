@@ -124,7 +124,7 @@ AreCopied-none diagrams found within = record {
   placed = All-nil (HasCells (length found));
 }
 
-get_or-push : (copies : List Diagram) (copy d : Diagram) → get_or (copies ++ copy ∷ []) (length copies) d ≡ copy
+pub get_or-push : (copies : List Diagram) (copy d : Diagram) → get_or (copies ++ copy ∷ []) (length copies) d ≡ copy
 get_or-push [] copy d = refl
 get_or-push (first ∷ copies) copy d = get_or-push copies copy d
 

@@ -12,3 +12,5 @@ pub mod DiagramShapes
 pub mod StoreSteps
 pub mod Appending
 pub mod Parting
+pub mod StandingIn
+pub mod Representing

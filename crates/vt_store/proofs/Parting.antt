@@ -19,7 +19,7 @@ use Rattle.vt_store.proofs.StoreSteps.{HasCells-ends}
 
 -- A store of moved diagrams is a part of the one that they come from.
 
-end_in-mapped : (by : ℕ → ℕ) (decision : List Side) (diagram : Diagram) → end_in decision (mapped by diagram) ≡ mapped_end by (end_in decision diagram)
+pub end_in-mapped : (by : ℕ → ℕ) (decision : List Side) (diagram : Diagram) → end_in decision (mapped by diagram) ≡ mapped_end by (end_in decision diagram)
 end_in-mapped by decision Open = refl
 end_in-mapped by decision (Link cell) = refl
 end_in-mapped by decision (Con head kids) = refl

@@ -8,4 +8,5 @@ pub mod Diagrams
 pub mod Views
 pub mod Stores
 pub mod Parts
+pub mod Sharing
 pub mod Laws

@@ -1,8 +1,10 @@
-ghost use Rattle.std.specs.Prelude.{◌≡◌, ◌+◌, ◌<◌, ◌^◌, map, IfOk};
+ghost use Rattle.std.specs.Prelude.{◌≡◌, ◌+◌, ◌<◌, ◌^◌, map, slice_index, IfOk, IsTrue};
 ghost use Rattle.std.specs.List.{All};
 
 use crate::CellId;
+use crate::sharing::representative;
 use std::alloc::{AllocError, Global};
+use std::hash::{FoldHasher, Hasher};
 use std::marker::Model;
 
 /// Cells in order, as the children of a head.
@@ -49,5 +51,38 @@ impl CellList {
             cells.push(CellId(cell.0 + by))?;
         }
         Ok(CellList::new(cells))
+    }
+
+    /// The representatives of the cells, in order, as `Store::shared` answers them.
+    pub fn represented(&self, alloc: Global, names: &[CellId]) -> Result<CellList, AllocError>
+        ensures { IfOk result (λ cells. cells ≡ map (slice_index names.now) self.now) }
+    {
+        let mut cells = Vec::with_capacity(alloc, self.as_slice().len())?;
+        for cell in self.as_slice() {
+            cells.push(representative(names, *cell))?;
+        }
+        Ok(CellList::new(cells))
+    }
+
+    /// The representatives of both are the same, in order.
+    pub(crate) fn is_alike(&self, other: &CellList, names: &[CellId]) -> bool
+        ensures { IsTrue result → map (slice_index names.now) self.now ≡ map (slice_index names.now) other.now }
+    {
+        if self.as_slice().len() != other.as_slice().len() {
+            return false;
+        }
+        for (cell, own) in self.as_slice().iter().zip(other.as_slice()) {
+            if representative(names, *cell) != representative(names, *own) {
+                return false;
+            }
+        }
+        true
+    }
+
+    /// Feeds a hasher with the representatives.
+    pub(crate) fn feed(&self, names: &[CellId], state: &mut FoldHasher) {
+        for cell in self.as_slice() {
+            state.write_usize(representative(names, *cell).0);
+        }
     }
 }

@@ -5,15 +5,19 @@ ghost use Rattle.vt_dec.specs.Decisions.{Admits, IsSideOf, IsKept};
 ghost use Rattle.vt_store.specs.Branches.{IsLeastBranch};
 ghost use Rattle.vt_store.specs.Writes.{IsWrite, IsBefore, IsGapTo};
 ghost use Rattle.vt_store.specs.Ends.{CellEnd, Same};
+ghost use Rattle.vt_store.specs.declared.diagram.Diagram.{Link};
 ghost use Rattle.vt_store.specs.Diagrams.{choice, end_in, IsOrdered, IsBehind, HasCells, HasRoom, Passes, raised, AreOneLeaf, IsJoined};
 ghost use Rattle.vt_store.specs.Parts.{IsMoved};
+ghost use Rattle.vt_store.specs.Sharing.{AreAlike, IsRepresented};
 ghost use Rattle.vt_store.specs.Views.{seen};
 
 use crate::found::Found;
+use crate::sharing::representative;
 use crate::walk::{after, next_before, side_in};
 use crate::{CellId, CellList, End};
 use sqlite_items::Boxed;
 use std::alloc::{AllocError, Global};
+use std::hash::{FoldHasher, Hasher};
 use vt_dec::{Context, Decision, Dim, Side};
 use vt_type::Head;
 
@@ -121,6 +125,88 @@ impl Diagram {
                 let left = left.get().moved(alloc, found)?;
                 let right = right.get().moved(alloc, found)?;
                 Diagram::choice(alloc, dim, left, right)
+            }
+        }
+    }
+
+    /// Where a link at every decision leads.
+    pub(crate) fn target(&self) -> Option<CellId>
+        ensures { IfSome result (λ cell. self.now ≡ Link cell) }
+    {
+        match self {
+            Diagram::Link(cell) => Some(*cell),
+            _ => None,
+        }
+    }
+
+    /// Both are nowhere open, and one once each cell is replaced by its representative.
+    pub(crate) fn is_alike(&self, other: &Diagram, names: &[CellId]) -> bool
+        ensures { IsTrue result → AreAlike names.now self.now other.now }
+    {
+        match self {
+            Diagram::Open => false,
+            Diagram::Link(cell) => match other {
+                Diagram::Link(own) => representative(names, *cell) == representative(names, *own),
+                _ => false,
+            },
+            Diagram::Con(head, kids) => match other {
+                Diagram::Con(own, others) => head.is(*own) && kids.is_alike(others, names),
+                _ => false,
+            },
+            Diagram::Choice(dim, left, right) => match other {
+                Diagram::Choice(own, one, other) => {
+                    if dim != own {
+                        return false;
+                    }
+                    if !left.get().is_alike(one.get(), names) {
+                        return false;
+                    }
+                    right.get().is_alike(other.get(), names)
+                }
+                _ => false,
+            },
+        }
+    }
+
+    /// Feeds a hasher with what `is_alike` compares.
+    pub(crate) fn feed(&self, names: &[CellId], state: &mut FoldHasher) {
+        match self {
+            Diagram::Open => state.write_u8(0),
+            Diagram::Link(cell) => {
+                state.write_u8(1);
+                state.write_usize(representative(names, *cell).0);
+            }
+            Diagram::Con(head, kids) => {
+                state.write_u8(2);
+                state.write_u8(head.arity());
+                kids.feed(names, state);
+            }
+            Diagram::Choice(dim, left, right) => {
+                state.write_u8(3);
+                state.write_u32(dim.0);
+                left.get().feed(names, state);
+                right.get().feed(names, state);
+            }
+        }
+    }
+
+    /// The same ends, with each cell replaced by its representative. A choice between two links that
+    /// have become one is that link.
+    pub(crate) fn represented(&self, alloc: Global, names: &[CellId]) -> Result<Diagram, AllocError>
+        ensures { IfOk result (IsRepresented names.now self.now) }
+    {
+        match self {
+            Diagram::Open => Ok(Diagram::Open),
+            Diagram::Link(cell) => Ok(Diagram::Link(representative(names, *cell))),
+            Diagram::Con(head, kids) => {
+                let head = *head;
+                Ok(Diagram::Con(head, kids.represented(alloc, names)?))
+            }
+            Diagram::Choice(dim, left, right) => {
+                let dim = *dim;
+                let left = left.get().represented(alloc, names)?;
+                let right = right.get().represented(alloc, names)?;
+                Diagram::joined(alloc, dim, left, right)
             }
         }
     }

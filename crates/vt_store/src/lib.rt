@@ -15,6 +15,7 @@ mod found;
 mod ids;
 pub mod laws;
 mod pattern;
+mod sharing;
 mod store;
 #[cfg(test)]
 mod tests;
@@ -24,5 +25,5 @@ mod walk;
 pub use cell_list::CellList;
 pub use ids::CellId;
 pub use pattern::Pattern;
-pub use store::{Part, Store};
+pub use store::{Part, Shared, Store};
 pub use views::{End, Look};

@@ -1,4 +1,4 @@
-ghost use Rattle.std.specs.Prelude.{◌≡◌, ◌*◌, ◌+◌, ◌≤◌, ◌<◌, ◌^◌, ℕ, List, [], ◌∷◌, ◌++◌, length, map, None, IfSome, OnOk, OnErr, IfOk, IsOk, vec_len, vec_capacity};
+ghost use Rattle.std.specs.Prelude.{◌≡◌, ◌*◌, ◌+◌, ◌≤◌, ◌<◌, ◌^◌, ℕ, List, [], ◌∷◌, ◌++◌, length, map, slice_index, None, IfSome, OnOk, OnErr, IfOk, IsOk, vec_len, vec_capacity};
 ghost use Rattle.std.specs.List.{All};
 ghost use Rattle.vt_dec.specs.declared.side.Side.{Side};
 ghost use Rattle.vt_dec.specs.Decisions.{Admits, IsSideOf};
@@ -8,10 +8,12 @@ ghost use Rattle.vt_store.specs.Writes.{IsOf};
 ghost use Rattle.vt_store.specs.Diagrams.{raised, HasCells, HasRoom};
 ghost use Rattle.vt_store.specs.Views.{seen, LooksAs};
 ghost use Rattle.vt_store.specs.Parts.{IsPart, AreTaken};
+ghost use Rattle.vt_store.specs.Sharing.{IsShared};
 ghost use Rattle.vt_store.specs.Stores.{ends_at, cell_count, IsUnchanged, Adds, IsBound, IsAppended, one_of, IsCellBranch, IsOneEnd};
 
 use crate::diagram::Diagram;
 use crate::found::Found;
+use crate::sharing::{representative, representatives, represented};
 use crate::{CellId, CellList, End, Look};
 use std::alloc::{AllocError, Global};
 use std::marker::Model;
@@ -33,6 +35,22 @@ pub struct Part<const N: usize> {
     pub store: Store<N>,
     pub cells: CellList,
     pub root: CellId,
+}
+
+/// A store with the cells of another one, and for each cell one that stands for it: its representative.
+#[derive(Debug, Drop)]
+pub struct Shared<const N: usize> {
+    pub store: Store<N>,
+    pub representatives: CellList,
+}
+
+impl<const N: usize> Shared<N> {
+    /// The cell that stands for a cell.
+    pub fn representative(&self, cell: CellId) -> CellId
+        ensures { result ≡ slice_index self.now.representatives cell }
+    {
+        representative(self.representatives.as_slice(), cell)
+    }
 }
 
 impl<const N: usize> Model for Store<N> {
@@ -192,6 +210,25 @@ impl<const N: usize> Store<N> {
             space: self.space,
         };
         Ok(Part { store, cells, root })
+    }
+
+    /// The same cells, where cells that are bound alike name one of them, and links are left out, so that
+    /// the part to which some representatives lead has fewer. One call finds what is equal once the
+    /// cells below have been looked at; the next one may find more.
+    pub fn shared(&self, alloc: Global) -> Result<Shared<N>, AllocError>
+        ensures shared { IfOk result (IsShared N self.now) }
+    {
+        let names = representatives(alloc, &self.cells)?;
+        let cells = represented(alloc, &self.cells, &names)?;
+        let store = Store {
+            cells,
+            alloc,
+            space: self.space,
+        };
+        Ok(Shared {
+            store,
+            representatives: CellList::new(names),
+        })
     }
 
     /// What a cell is bound to at a decision, once links are followed.

@@ -1,7 +1,5 @@
-use Rattle.vt_scheme.proofs.Freezing.{IsFrozen-part}
+use Rattle.vt_scheme.proofs.Merging.{IsFrozen-both}
 use Rattle.vt_scheme.proofs.scheme.freeze.Goals as goal
 
-pub returns : goal.returns
-returns g c = record {
-  frozen = IsFrozen-part c.args.store.now c.args.monos.now c.args.root c.in_ok-part.part c.in_ok-part.ensures.part c.solutions_of_parts.ensures c.space-space.ensures.acyclic c.space-space.ensures.arities;
-}
+pub turns-preserved : goal.turns-preserved
+turns-preserved g c = IsFrozen-both g.row.N c.args.store.now c.args.monos.now c.args.root c.turns.scheme c.in_ok-merged.merged c.turns.invariant c.in_ok-merged.ensures
