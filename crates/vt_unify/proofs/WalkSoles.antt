@@ -1,11 +1,11 @@
-use Rattle.std.proofs.Common.{◌≡◌, ◌⊎◌, ℕ, ◌*◌, ◌<◌, List, [], ◌∷◌, ◌++◌, Bool, Some, get_or, length, refl, ap, sym, subst, ◌∙◌, inl, inr}
+use Rattle.std.proofs.Common.{◌≡◌, ◌⊎◌, ℕ, ◌*◌, ◌<◌, List, Some, get_or, length, refl, ap, sym, subst, inl, inr}
 use Rattle.std.specs.BTreeMap.{BTreeMap, IsEmpty, Updates, is_at}
-use Rattle.std.specs.List.{All, filter}
+use Rattle.std.specs.List.{All}
 use Rattle.std.specs.Map.{lookup}
 use Rattle.std.specs.Option.{unwrap_or}
 use Rattle.std.specs.Ordering.{nat_cmp}
 use Rattle.std.proofs.lemmas.Bool.{cases_eq}
-use Rattle.std.proofs.lemmas.List.Elements.{All-append, All-contains, All-filter, All-push, Contains-get_or}
+use Rattle.std.proofs.lemmas.List.Elements.{All-contains, Contains-get_or}
 use Rattle.vt_dec.specs.declared.side.Side.{Side}
 use Rattle.vt_dec.specs.Decisions.{Region}
 use Rattle.vt_store.specs.Ends.{NamesCell, IsAcyclic}
@@ -46,10 +46,3 @@ All-linked N store region sized space acyclic cell next within linked k d low =
     let link = linked.only own (Contains-get_or next k d low) in
     let admitted = IsOf-admitted N region store.space link.0 sized space link.1 in
     named-within (cell_count store) (ends_at store link.0) (cell_count store) cell own (acyclic link.0 admitted cell within) (subst (λ end. NamesCell end own) (sym link.2) refl)
-
--- the cell is put back, and before it those that are missing
-pub All-put : (P : ℕ → Type 0) (pending middle later : List ℕ) (cell : ℕ) (next : List ℕ) (test : ℕ → Bool) (missing : List ℕ) → All P pending → P cell → All P next → missing ≡ filter test next
-    → middle ≡ pending ++ cell ∷ [] → later ≡ middle ++ missing → All P later
-All-put P pending middle later cell next test missing all here below is first second =
-    subst (All P) (sym (second ∙ ap (λ own. own ++ missing) first))
-    (All-append P (pending ++ cell ∷ []) missing (All-push P pending cell all here) (subst (All P) (sym is) (All-filter test P next below)))

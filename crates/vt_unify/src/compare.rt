@@ -69,6 +69,13 @@ fn compare_roots<'a, const N: usize>(
     ensures { IfOk result (IsComparison N store.now within.now one other) }
 {
     let Some((head, lefts)) = made(store, within, one) else {
+        // Of two open cells the later one is bound, so that one cell comes to stand for others at every
+        // decision, and contexts need not be split for what stands for them.
+        if one < other {
+            if let None = made(store, within, other) {
+                return compare_open(store, within, other, one);
+            }
+        }
         return compare_open(store, within, one, other);
     };
     let Some((own, rights)) = made(store, within, other) else {

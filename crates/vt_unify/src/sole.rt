@@ -1,7 +1,7 @@
 //! The cell through which every way of links goes.
-ghost use Rattle.std.specs.Prelude.{◌≡◌, ◌<◌, ◌↔◌, IsTrue, Some, is_some, not, IfOk, OnOk};
+ghost use Rattle.std.specs.Prelude.{◌≡◌, ◌<◌, ◌↔◌, ℕ, IsTrue, Some, is_some, IfOk, OnOk};
 ghost use Rattle.std.specs.BTreeMap.{get, Updates};
-ghost use Rattle.std.specs.List.{All, filter};
+ghost use Rattle.std.specs.List.{All};
 ghost use Rattle.std.specs.Ordering.{nat_cmp};
 ghost use Rattle.vt_store.specs.Stores.{cell_count};
 ghost use Rattle.vt_unify.specs.Soles.{ahead_in, AreSoles, IsAgreed};
@@ -12,6 +12,14 @@ use std::alloc::{AllocError, Global};
 use std::collections::BTreeMap;
 use vt_dec::Context;
 use vt_store::{CellId, Store};
+
+/// A cell that is to be looked at: for the first time, or again once the cells that its links lead to
+/// have been looked at.
+#[derive(Clone, Copy, Debug, Drop)]
+struct Visit {
+    cell: CellId,
+    again: bool,
+}
 
 /// A cell through which every way of links from the given one goes, as far down as one is found. No
 /// cell is followed twice, so a chain of choices that come together again costs no more than its cells.
@@ -26,7 +34,7 @@ pub(crate) fn sole<const N: usize>(
 {
     let mut known = BTreeMap::new(store.allocator());
     let mut pending = Vec::new(store.allocator());
-    pending.push(cell)?;
+    pending.push(Visit { cell, again: false })?;
     // What the table says is right at any time, so the bound makes no answer wrong; no store comes near it.
     'turns: for _ in 0..u64::MAX {
         let Some(next) = pending.pop() else { break };
@@ -35,37 +43,51 @@ pub(crate) fn sole<const N: usize>(
     Ok(ahead(&known, cell))
 }
 
-/// Finds where the links of a cell lead, or puts those cells first of which this has to be known before.
+/// Finds where the links of a cell lead, after those cells of which this has to be known before. Until
+/// then the cell stands for itself, which ends a walk in a circle through several decisions.
 fn settle<const N: usize>(
     store: &Store<N>,
     within: &Context<N>,
-    cell: CellId,
+    next: Visit,
     known: &mut BTreeMap<usize, CellId>,
-    pending: &mut Vec<CellId>,
+    pending: &mut Vec<Visit>,
 ) -> Result<(), AllocError>
-    requires cell { cell < cell_count store.now }
+    requires cell { next.cell < cell_count store.now }
     requires space { within.now.space ≡ store.now.space }
     requires known { AreSoles store.now within.now known.old }
-    requires pending { All (λ own. own < cell_count store.now) pending.old.items }
+    requires pending { All (λ own. own.cell < cell_count store.now) pending.old.items }
     ensures known { OnOk result (AreSoles store.now within.now known.new) }
-    ensures pending { OnOk result (All (λ own. own < cell_count store.now) pending.new.items) }
+    ensures pending { OnOk result (All (λ own. own.cell < cell_count store.now) pending.new.items) }
 {
     // What they ensure is that the next cells are cells.
     let _space = store.space();
     let _sized = within.space();
-    if is_known(known, cell) {
+    let cell = next.cell;
+    if !next.again && is_known(known, cell) {
         return Ok(());
     }
-    let Some(next) = linked(store, within, cell)? else {
+    let Some(cells) = linked(store, within, cell)? else {
         return know(known, cell, cell);
     };
-    let missing = unknown(store.allocator(), known, &next)?;
-    if missing.is_empty() {
-        let last = agreed(known, cell, &next);
+    if next.again {
+        let last = agreed(known, cell, &cells);
         return know(known, cell, last);
     }
-    pending.push(cell)?;
-    pending.extend_from_slice(&missing)?;
+    pending.push(Visit { cell, again: true })?;
+    put(pending, &cells)?;
+    know(known, cell, cell)
+}
+
+/// The cells are to be looked at for the first time.
+fn put(pending: &mut Vec<Visit>, cells: &[CellId]) -> Result<(), AllocError>
+    ensures { (count : ℕ) → All (λ own. own.cell < count) pending.old.items → All (λ own. own < count) cells.now → OnOk result (All (λ own. own.cell < count) pending.new.items) }
+{
+    for cell in cells {
+        pending.push(Visit {
+            cell: *cell,
+            again: false,
+        })?;
+    }
     Ok(())
 }
 
@@ -87,21 +109,6 @@ fn know(known: &mut BTreeMap<usize, CellId>, cell: CellId, last: CellId) -> Resu
 {
     known.insert(cell.0, last)?;
     Ok(())
-}
-
-/// Those of the cells of which nothing is known.
-fn unknown(
-    alloc: Global,
-    known: &BTreeMap<usize, CellId>,
-    cells: &[CellId],
-) -> Result<Vec<CellId>, AllocError>
-    ensures { IfOk result (λ found. found.items ≡ filter (λ cell. not (is_some (get nat_cmp known.now cell))) cells.now) }
-{
-    cells
-        .iter()
-        .copied()
-        .filter(|cell| !is_known(known, *cell))
-        .collect(alloc)
 }
 
 /// The cell to which all of these lead, as far as is known, or else the one before them.

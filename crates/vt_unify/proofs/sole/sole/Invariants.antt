@@ -7,5 +7,5 @@ use Rattle.vt_unify.proofs.sole.sole.Given as goal
 abbrev pub invariant-turns : goal.invariant-turns
 invariant-turns g l = record {
   known : AreSoles l.store l.within l.known;
-  cells : All (λ own. own < cell_count l.store) l.pending.items;
+  cells : All (λ own. own.cell < cell_count l.store) l.pending.items;
 }
