@@ -1,5 +1,5 @@
 //! The examples of the documents, and limits that only larger files meet.
-use crate::tests::{prints, refuses};
+use crate::tests::{doubled, doubled_type, prints, refuses};
 use std::alloc::{AllocError, Global};
 use std::test::Fail;
 
@@ -62,7 +62,7 @@ fn a_recursive_definition_serves_all_variants(rt: HostRuntime) -> Result<(), Fai
 }
 
 // One text, then another so many times, and a last one.
-fn repeated(
+pub fn repeated(
     alloc: Global,
     first: &str,
     more: &str,
@@ -95,12 +95,36 @@ fn later_elements_of_a_list_are_deeper(rt: HostRuntime) -> Result<(), Fail> {
     Ok(())
 }
 
+// A function that makes a pair of its argument twice, applied so many times.
+fn through_functions(alloc: Global, count: u32) -> Result<String, AllocError> {
+    let mut file = repeated(alloc, "", "(fun x -> (x, x)) (", count, "1")?;
+    file.push_str(&repeated(alloc, "", ")", count, "")?)?;
+    Ok(file)
+}
+
 #[test]
 fn the_limit_counts_types_that_are_shared(rt: HostRuntime) -> Result<(), Fail> {
     let alloc = rt.alloc();
-    let mut file = repeated(alloc, "", "(fun x -> (x, x)) (", 12, "1")?;
-    file.push_str(&repeated(alloc, "", ")", 12, "")?)?;
+    let text = doubled_type(alloc, 11)?;
     let line = "type of - has more than 4096 nodes\n";
-    assert!(rt; refuses(alloc, &file, line)?);
+    assert!(rt; prints(alloc, &through_functions(alloc, 11)?, &text)?);
+    assert!(rt; refuses(alloc, &through_functions(alloc, 12)?, line)?);
+    Ok(())
+}
+
+// A type of 4,095 nodes, within so many lists.
+fn listed(alloc: Global, open: &str, close: &str) -> Result<String, AllocError> {
+    let file = doubled(alloc, 11)?;
+    format!(in alloc; "{open}{file}{close}")
+}
+
+#[test]
+fn a_type_of_as_many_nodes_as_the_limit_is_printed(rt: HostRuntime) -> Result<(), Fail> {
+    let alloc = rt.alloc();
+    let text = doubled_type(alloc, 11)?;
+    let text = format!(in alloc; "[{}]\n", text.trim_end())?;
+    let line = "type of - has more than 4096 nodes\n";
+    assert!(rt; prints(alloc, &listed(alloc, "[", "]")?, &text)?);
+    assert!(rt; refuses(alloc, &listed(alloc, "[[", "]]")?, line)?);
     Ok(())
 }

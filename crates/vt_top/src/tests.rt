@@ -6,7 +6,7 @@ use vt_io::{MemFiles, MemSink};
 const LONGEST: usize = 262144;
 
 // The text and the status of the words over a file named `f`.
-fn answer(alloc: Global, words: &[&str], file: &[u8]) -> Result<(Status, MemSink), AllocError> {
+pub fn answer(alloc: Global, words: &[&str], file: &[u8]) -> Result<(Status, MemSink), AllocError> {
     let mut files = MemFiles::new(alloc);
     files.add("f", file)?;
     let mut sink = MemSink::with_room(alloc, 100000)?;
@@ -33,7 +33,7 @@ pub fn refuses(alloc: Global, file: &str, line: &str) -> Result<bool, AllocError
     refuses_bytes(alloc, file.as_bytes(), line)
 }
 
-fn refuses_bytes(alloc: Global, file: &[u8], line: &str) -> Result<bool, AllocError> {
+pub fn refuses_bytes(alloc: Global, file: &[u8], line: &str) -> Result<bool, AllocError> {
     let (status, sink) = answer(alloc, &["type", "f"], file)?;
     Ok(status == Status::Refused && sink.bytes() == line.as_bytes())
 }
@@ -126,7 +126,7 @@ fn refusals_come_in_order(rt: HostRuntime) -> Result<(), Fail> {
 }
 
 // The type of the file is printed so, with the error in it.
-fn prints_error(alloc: Global, file: &str, text: &str) -> Result<bool, AllocError> {
+pub fn prints_error(alloc: Global, file: &str, text: &str) -> Result<bool, AllocError> {
     let (status, sink) = answer(alloc, &["type", "f"], file.as_bytes())?;
     Ok(status == Status::Untyped && sink.bytes() == text.as_bytes())
 }
@@ -228,7 +228,7 @@ fn chosen(alloc: Global, count: u32, first: &str, last: &str) -> Result<String, 
 }
 
 // So many times the pair of what was before.
-fn doubled(alloc: Global, count: u32) -> Result<String, AllocError> {
+pub fn doubled(alloc: Global, count: u32) -> Result<String, AllocError> {
     let mut text = String::from_str(alloc, "1")?;
     for _ in 0..count {
         text = format!(in alloc; "({text}, {text})")?;
@@ -237,7 +237,7 @@ fn doubled(alloc: Global, count: u32) -> Result<String, AllocError> {
 }
 
 // The text of the type of that.
-fn doubled_type(alloc: Global, count: u32) -> Result<String, AllocError> {
+pub fn doubled_type(alloc: Global, count: u32) -> Result<String, AllocError> {
     let mut text = String::from_str(alloc, "Int * Int")?;
     for _ in 1..count {
         text = format!(in alloc; "({text}) * ({text})")?;
