@@ -19,4 +19,6 @@ pub use status::Status;
 #[cfg(test)]
 mod example_tests;
 #[cfg(test)]
+mod grouping_tests;
+#[cfg(test)]
 mod tests;
