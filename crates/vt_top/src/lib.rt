@@ -19,6 +19,8 @@ pub use status::Status;
 #[cfg(test)]
 mod example_tests;
 #[cfg(test)]
+mod form_tests;
+#[cfg(test)]
 mod grouping_tests;
 #[cfg(test)]
 mod tests;
