@@ -23,4 +23,6 @@ mod form_tests;
 #[cfg(test)]
 mod grouping_tests;
 #[cfg(test)]
+mod program_tests;
+#[cfg(test)]
 mod tests;
