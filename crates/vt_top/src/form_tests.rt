@@ -233,6 +233,29 @@ fn chains_of_each_operator_have_one_limit(rt: HostRuntime) -> Result<(), Fail> {
     Ok(())
 }
 
+// 260,000 bytes are refused at the first token that is too deep.
+#[test]
+fn a_long_chain_is_refused_where_it_is_too_deep(rt: HostRuntime) -> Result<(), Fail> {
+    let alloc = rt.alloc();
+    let file = repeated(alloc, "1", "+1", 130000, "")?;
+    assert!(rt; refuses(alloc, &file, "1:512 nested too deep\n")?);
+    Ok(())
+}
+
+#[test]
+fn long_nests_are_refused_where_they_are_too_deep(rt: HostRuntime) -> Result<(), Fail> {
+    let alloc = rt.alloc();
+    for (part, count, line) in [
+        ("1::", 86666, "1:767 nested too deep\n"),
+        ("(", 260000, "1:256 nested too deep\n"),
+        ("fun x->", 37142, "1:1786 nested too deep\n"),
+    ] {
+        let file = repeated(alloc, "", part, count, "")?;
+        assert!(rt; refuses(alloc, &file, line)?, "{part}");
+    }
+    Ok(())
+}
+
 #[test]
 fn long_texts_are_read(rt: HostRuntime) -> Result<(), Fail> {
     let alloc = rt.alloc();

@@ -146,6 +146,10 @@ fn choices_stand_in_every_place(rt: HostRuntime) -> Result<(), Fail> {
             "@A{Bool, 'a -> Bool}\n",
         ),
         (
+            "def id = fun x -> x;\ndef f1 = fun x -> id @D1{succ x, not x};\ndef f2 = fun x -> id @D2{succ x, not x};\n(f1, f2)",
+            "(@D1{Int, Bool} -> @D1{Int, Bool}) * (@D2{Int, Bool} -> @D2{Int, Bool})\n",
+        ),
+        (
             "(@B{1, 2}, @A{@B{1, true}, \"s\"})",
             "Int * @B{@A{Int, String}, @A{Bool, String}}\n",
         ),
@@ -191,6 +195,7 @@ fn errors_stand_at_the_variants_that_have_them(rt: HostRuntime) -> Result<(), Fa
         ("fun f -> (f 1, f true)", "!\n"),
         ("fun x -> let y = x in (y 1, y true)", "!\n"),
         ("(1, 1 true)", "!\n"),
+        ("1 true", "!\n"),
     ] {
         assert!(rt; prints_error(alloc, file, text)?, "{file}");
     }
@@ -235,5 +240,36 @@ fn two_hundred_definitions_use_one_another(rt: HostRuntime) -> Result<(), Fail> 
     let alloc = rt.alloc();
     let file = functions(alloc, 200, "(f200 1, f199 @A{true, \"s\"})")?;
     assert!(rt; prints(alloc, &file, "Int * @A{Bool, String}\n")?);
+    Ok(())
+}
+
+// The sum of a number and so many choices, each of which has a number as its first alternative.
+fn sum_of_choices(alloc: Global, count: u32) -> Result<String, AllocError> {
+    let mut file = String::from_str(alloc, "1")?;
+    for n in 1..=count {
+        write!(file, " + @D{n}{{1, true}}")?;
+    }
+    Ok(file)
+}
+
+// Its type: only the variant with all first alternatives has one.
+fn type_of_sum(alloc: Global, count: u32) -> Result<String, AllocError> {
+    let mut text = String::new(alloc);
+    for n in 1..=count {
+        write!(text, "@D{n}{{")?;
+    }
+    text.push_str("Int")?;
+    for _ in 0..count {
+        text.push_str(", !}")?;
+    }
+    text.push_str("\n")?;
+    Ok(text)
+}
+
+#[test]
+fn one_variant_of_very_many_has_a_type(rt: HostRuntime) -> Result<(), Fail> {
+    let alloc = rt.alloc();
+    let text = type_of_sum(alloc, 60)?;
+    assert!(rt; prints_error(alloc, &sum_of_choices(alloc, 60)?, &text)?);
     Ok(())
 }
