@@ -186,6 +186,15 @@ fn the_first_part_that_is_too_big_is_named(rt: HostRuntime) -> Result<(), Fail> 
     Ok(())
 }
 
+// No type after the first that is too big is ever written out.
+#[test]
+fn types_that_double_forty_times_are_answered(rt: HostRuntime) -> Result<(), Fail> {
+    let alloc = rt.alloc();
+    let line = "type of x12 has more than 4096 nodes\n";
+    assert!(rt; refuses(alloc, &pairs(alloc, 40)?, line)?);
+    Ok(())
+}
+
 // So many opening parentheses.
 fn open(alloc: Global, count: usize) -> Result<Vec<u8>, AllocError> {
     vec![in alloc; b'('; count]
