@@ -1,5 +1,5 @@
 //! The examples of the documents, and limits that only larger files meet.
-use crate::tests::{doubled, doubled_type, prints, refuses};
+use crate::tests::{doubled_type, prints, refuses};
 use std::alloc::{AllocError, Global};
 use std::test::Fail;
 
@@ -114,7 +114,7 @@ fn the_limit_counts_types_that_are_shared(rt: HostRuntime) -> Result<(), Fail> {
 
 // A type of 4,095 nodes, within so many lists.
 fn listed(alloc: Global, open: &str, close: &str) -> Result<String, AllocError> {
-    let file = doubled(alloc, 11)?;
+    let file = through_functions(alloc, 11)?;
     format!(in alloc; "{open}{file}{close}")
 }
 

@@ -5,13 +5,13 @@ use crate::tests::{answer, prints, refuses, refuses_bytes};
 use std::alloc::{AllocError, Global};
 use std::test::Fail;
 
-// No front of the text that ends before one of its blanks is a program, and the text is one.
+// No front of the text that ends before one of its blanks is a program, and the text is one. What is read so
+// far has a blank at each end, so its length is the column that comes after its last token.
 fn needs_each_token(alloc: Global, text: &str) -> Result<bool, AllocError> {
-    let mut front = String::new(alloc);
+    let mut front = String::from_str(alloc, " ")?;
     for token in text.split(' ') {
-        let place = front.len() + 1;
-        let line = format!(in alloc; "1:{place} unexpected end of text\n")?;
-        if !refuses(alloc, &front, &line)? {
+        let line = format!(in alloc; "1:{} unexpected end of text\n", front.len())?;
+        if !refuses(alloc, front.trim_end(), &line)? {
             return Ok(false);
         }
         front.push_str(token)?;

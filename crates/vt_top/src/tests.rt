@@ -237,7 +237,7 @@ fn chosen(alloc: Global, count: u32, first: &str, last: &str) -> Result<String, 
 }
 
 // So many times the pair of what was before.
-pub fn doubled(alloc: Global, count: u32) -> Result<String, AllocError> {
+fn doubled(alloc: Global, count: u32) -> Result<String, AllocError> {
     let mut text = String::from_str(alloc, "1")?;
     for _ in 0..count {
         text = format!(in alloc; "({text}, {text})")?;
