@@ -47,6 +47,20 @@ fn the_operators_have_these_types(rt: HostRuntime) -> Result<(), Fail> {
         ("3 - 2 + 1", "Int\n"),
         ("2 * 3", "Int\n"),
         ("succ 1 * 2", "Int\n"),
+        ("1 + 2 * 3 = 7", "Bool\n"),
+        ("7 = 1 + 2 * 3", "Bool\n"),
+        ("1 < 2 and 3 < 4", "Bool\n"),
+        ("1 < 2 or 3 < 4 and true", "Bool\n"),
+        ("true or false and true", "Bool\n"),
+        ("\"a\" ^ \"b\" ^ \"c\"", "String\n"),
+        ("\"a\" ^ \"b\" = \"ab\"", "Bool\n"),
+        ("1 :: 2 :: []", "[Int]\n"),
+        ("1 + 2 :: 3 * 4 :: []", "[Int]\n"),
+        ("1 :: [] = []", "Bool\n"),
+        ("not true = false and succ 1 < 2", "Bool\n"),
+        ("fun x -> x + 1 :: []", "Int -> [Int]\n"),
+        ("if true then 1 else 2 + 3", "Int\n"),
+        ("let x = 1 in x = 1 or false", "Bool\n"),
     ] {
         assert!(rt; prints(alloc, file, text)?, "{file}");
     }

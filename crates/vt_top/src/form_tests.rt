@@ -1,4 +1,4 @@
-//! Texts that are refused at one token, odd texts that are read, and both sides of the limits on depth and length.
+//! The tokens that each form needs, texts that are refused at one token, and both sides of the limits on depth.
 use crate::Status;
 use crate::example_tests::repeated;
 use crate::tests::{answer, prints, refuses, refuses_bytes};
@@ -79,68 +79,6 @@ fn a_token_that_no_program_has_is_named(rt: HostRuntime) -> Result<(), Fail> {
         ("1 def x = 1;", "1:3 unexpected def\n"),
         ("fun let -> 1", "1:5 unexpected let\n"),
         ("rec", "1:1 unexpected rec\n"),
-    ] {
-        assert!(rt; refuses(alloc, file, line)?, "{file}");
-    }
-    Ok(())
-}
-
-#[test]
-fn odd_texts_are_read(rt: HostRuntime) -> Result<(), Fail> {
-    let alloc = rt.alloc();
-    for (file, text) in [
-        ("def x = 1;\r\nx\r\n", "Int\n"),
-        ("def x = 1;\rx", "Int\n"),
-        ("def x=1;x", "Int\n"),
-        ("1#", "Int\n"),
-        ("# \u{1f600}\n1 # \u{e9}", "Int\n"),
-        ("00000000000000000000009223372036854775807", "Int\n"),
-        ("\"\u{1f600}\u{e9}# \"", "String\n"),
-        ("\"\\\\\"", "String\n"),
-        ("fun \u{6771}\u{4eac} -> \u{6771}\u{4eac}", "'a -> 'a\n"),
-        ("fun x\u{301} -> x\u{301}", "'a -> 'a\n"),
-        ("fun \u{1d4b3} -> \u{1d4b3}", "'a -> 'a\n"),
-        ("fun _ -> _", "'a -> 'a\n"),
-        ("fun lets -> lets", "'a -> 'a\n"),
-        ("fun fst -> fst", "'a -> 'a\n"),
-        ("@\u{6771}{1, true}", "@\u{6771}{Int, Bool}\n"),
-        ("(let x = 1 in x) + 1", "Int\n"),
-        ("[let x = 1 in x; fst (1, 2)]", "[Int]\n"),
-    ] {
-        assert!(rt; prints(alloc, file, text)?, "{file}");
-    }
-    Ok(())
-}
-
-#[test]
-fn odd_texts_are_refused_at_their_place(rt: HostRuntime) -> Result<(), Fail> {
-    let alloc = rt.alloc();
-    for (file, line) in [
-        ("\r\n", "2:1 unexpected end of text\n"),
-        ("1\r\n)", "2:1 unexpected )\n"),
-        ("1\r)", "1:3 unexpected )\n"),
-        ("\t\t)", "1:3 unexpected )\n"),
-        ("\"\u{1f600}\" )", "1:5 unexpected )\n"),
-        ("# \u{e9}\n)", "2:1 unexpected )\n"),
-        ("1x", "1:2 unbound name x\n"),
-        ("letx", "1:1 unbound name letx\n"),
-        ("1 \u{feff}", "1:3 bad character\n"),
-        ("1\u{a0}+ 2", "1:2 bad character\n"),
-        ("1\u{2028}", "1:2 bad character\n"),
-        ("1\0", "1:2 bad character\n"),
-        ("1\u{c}", "1:2 bad character\n"),
-        ("1 \u{2212} 2", "1:3 bad character\n"),
-        ("\u{201c}a\u{201d}", "1:1 bad character\n"),
-        ("1 : []", "1:3 bad character\n"),
-        ("@ A{1, 2}", "1:1 bad character\n"),
-        ("@1{1, 2}", "1:1 bad character\n"),
-        ("'a", "1:1 bad character\n"),
-        ("\"a\nb\"", "1:1 string not closed\n"),
-        ("\"a\\\n\"", "1:1 string not closed\n"),
-        ("\"a\\\"", "1:1 string not closed\n"),
-        ("1\n \"", "2:2 string not closed\n"),
-        ("1 18446744073709551616", "1:3 number too large\n"),
-        ("(\n009223372036854775808", "2:1 number too large\n"),
     ] {
         assert!(rt; refuses(alloc, file, line)?, "{file}");
     }
@@ -233,41 +171,47 @@ fn chains_of_each_operator_have_one_limit(rt: HostRuntime) -> Result<(), Fail> {
     Ok(())
 }
 
-// 260,000 bytes are refused at the first token that is too deep.
-#[test]
-fn a_long_chain_is_refused_where_it_is_too_deep(rt: HostRuntime) -> Result<(), Fail> {
-    let alloc = rt.alloc();
-    let file = repeated(alloc, "1", "+1", 130000, "")?;
-    assert!(rt; refuses(alloc, &file, "1:512 nested too deep\n")?);
-    Ok(())
+// This is answered of the file.
+fn answers(alloc: Global, file: &str, status: Status, text: &str) -> Result<bool, AllocError> {
+    let (own, sink) = answer(alloc, &["type", "f"], file.as_bytes())?;
+    Ok(own == status && sink.bytes() == text.as_bytes())
 }
 
 #[test]
-fn long_nests_are_refused_where_they_are_too_deep(rt: HostRuntime) -> Result<(), Fail> {
+fn files_of_260000_bytes_are_answered(rt: HostRuntime) -> Result<(), Fail> {
     let alloc = rt.alloc();
-    for (part, count, line) in [
-        ("1::", 86666, "1:767 nested too deep\n"),
-        ("(", 260000, "1:256 nested too deep\n"),
-        ("fun x->", 37142, "1:1786 nested too deep\n"),
-    ] {
-        let file = repeated(alloc, "", part, count, "")?;
-        assert!(rt; refuses(alloc, &file, line)?, "{part}");
-    }
-    Ok(())
-}
-
-#[test]
-fn long_texts_are_read(rt: HostRuntime) -> Result<(), Fail> {
-    let alloc = rt.alloc();
-    for (first, more, count, last, text) in [
-        ("\"", "a", 260000, "\"", "String\n"),
-        ("fun ", "x", 260000, " -> 1", "'a -> Int\n"),
-        ("", "0", 260000, "1", "Int\n"),
-        ("1 #", "#", 260000, "", "Int\n"),
-        ("", "# a\r\n", 52000, "1", "Int\n"),
+    for (first, more, count, last, status, text) in [
+        (
+            "1",
+            "+1",
+            130000,
+            "",
+            Status::Refused,
+            "1:512 nested too deep\n",
+        ),
+        (
+            "",
+            "(",
+            260000,
+            "",
+            Status::Refused,
+            "1:256 nested too deep\n",
+        ),
+        (
+            "",
+            "fun x->",
+            37142,
+            "x",
+            Status::Refused,
+            "1:1786 nested too deep\n",
+        ),
+        ("\"", "a", 260000, "\"", Status::Done, "String\n"),
+        ("fun ", "x", 260000, " -> 1", Status::Done, "'a -> Int\n"),
+        ("", "0", 260000, "1", Status::Done, "Int\n"),
+        ("", "# a\r\n", 52000, "1", Status::Done, "Int\n"),
     ] {
         let file = repeated(alloc, first, more, count, last)?;
-        assert!(rt; prints(alloc, &file, text)?, "{more}");
+        assert!(rt; answers(alloc, &file, status, text)?, "{more}");
     }
     Ok(())
 }

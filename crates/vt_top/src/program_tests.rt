@@ -4,7 +4,7 @@ use std::alloc::{AllocError, Global};
 use std::test::Fail;
 
 #[test]
-fn functions_on_lists_are_typed(rt: HostRuntime) -> Result<(), Fail> {
+fn functions_have_their_principal_types(rt: HostRuntime) -> Result<(), Fail> {
     let alloc = rt.alloc();
     for (file, text) in [
         (
@@ -47,16 +47,6 @@ fn functions_on_lists_are_typed(rt: HostRuntime) -> Result<(), Fail> {
             "fun l -> match l with [] -> [] | x :: x -> x",
             "['a] -> ['a]\n",
         ),
-    ] {
-        assert!(rt; prints(alloc, file, text)?, "{file}");
-    }
-    Ok(())
-}
-
-#[test]
-fn functions_of_functions_are_typed(rt: HostRuntime) -> Result<(), Fail> {
-    let alloc = rt.alloc();
-    for (file, text) in [
         (
             "fun f -> fun g -> fun x -> f (g x)",
             "('a -> 'b) -> ('c -> 'a) -> 'c -> 'b\n",
@@ -196,16 +186,6 @@ fn errors_stand_at_the_variants_that_have_them(rt: HostRuntime) -> Result<(), Fa
         ("fun x -> let y = x in (y 1, y true)", "!\n"),
         ("(1, 1 true)", "!\n"),
         ("1 true", "!\n"),
-    ] {
-        assert!(rt; prints_error(alloc, file, text)?, "{file}");
-    }
-    Ok(())
-}
-
-#[test]
-fn a_recursive_name_has_one_type_in_its_own_expression(rt: HostRuntime) -> Result<(), Fail> {
-    let alloc = rt.alloc();
-    for (file, text) in [
         (
             "def rec f = fun x -> @A{if true then f 1 else f true, f x}; f",
             "@A{!, 'a -> 'b}\n",
