@@ -1,4 +1,4 @@
-ghost use Rattle.std.specs.Prelude.{◌≡◌, ◌<◌, [], ◌∷◌, length, slice_get, Some, IfOk, OnOk, MatchOption};
+ghost use Rattle.std.specs.Prelude.{◌≡◌, ◌<◌, ℕ, List, [], ◌∷◌, ◌++◌, length, slice_get, Some, IfOk, OnOk, OnErr, MatchOption};
 ghost use Rattle.vt_infer.specs.Environments.{mono_cells};
 
 use std::alloc::{AllocError, Global};
@@ -19,6 +19,9 @@ pub enum Entry<const N: usize> {
 #[derive(Debug, Drop)]
 pub struct Environment<const N: usize> {
     entries: VecDeque<Entry<N>>,
+    /// The cells of the parameters among them, the newest first. A file has many definitions, each of
+    /// which asks for these, and few parameters.
+    monos: VecDeque<CellId>,
 }
 
 impl<const N: usize> Model for Environment<N> {
@@ -26,12 +29,16 @@ impl<const N: usize> Model for Environment<N> {
     ghost use Rattle.std.specs.Coded.{codes};
     ghost use Rattle.vt_infer.specs.declared.environment.Entry.{Entry};
     ghost use Rattle.vt_store.specs.contracts.diagram.Diagram as shape;
+    ghost use Rattle.std.specs.Prelude.{◌≡◌};
+    ghost use Rattle.vt_infer.specs.Environments.{mono_cells};
 
     ghost Value = { List (Entry N) };
 
     ghost coded = { Prim.hlevel (codes, shape.the_row.coded) };
 
     ghost view = { λ e. e.entries.items };
+
+    ghost invariant = { λ e. e.monos.items ≡ mono_cells e.entries.items };
 }
 
 impl<const N: usize> Environment<N> {
@@ -40,13 +47,16 @@ impl<const N: usize> Environment<N> {
         ensures { result ≡ [] }
     {
         let entries = VecDeque::new(alloc);
-        Environment { entries }
+        let monos = VecDeque::new(alloc);
+        Environment { entries, monos }
     }
 
     pub fn push(&mut self, entry: Entry<N>) -> Result<(), AllocError>
         ensures { OnOk result (self.new ≡ entry.entry ∷ self.old) }
     {
-        self.entries.push_front(entry)?;
+        self.entries.reserve(1)?;
+        push_mono(&mut self.monos, &entry)?;
+        self.entries.push_front_reserved(entry);
         Ok(())
     }
 
@@ -54,7 +64,9 @@ impl<const N: usize> Environment<N> {
     pub fn pop(&mut self) -> Option<Entry<N>>
         ensures { MatchOption result ((self.old ≡ []) × (self.new ≡ [])) (λ entry. self.old ≡ entry ∷ self.new) }
     {
-        self.entries.pop_front()
+        let entry = self.entries.pop_front()?;
+        pop_mono(&mut self.monos, &entry);
+        Some(entry)
     }
 
     /// The entry of the name that was bound before so many others.
@@ -70,11 +82,38 @@ impl<const N: usize> Environment<N> {
         ensures { IfOk result (λ cells. cells ≡ mono_cells self.now) }
     {
         let mut cells = Vec::new(alloc);
-        for index in 0..self.entries.len() {
-            if let Entry::Mono(cell) = &self.entries[index] {
-                cells.push(*cell)?;
-            }
+        for index in 0..self.monos.len() {
+            cells.push(self.monos[index])?;
         }
         Ok(CellList::new(cells))
+    }
+}
+
+/// Adds the cell of an entry that has one type.
+fn push_mono<const N: usize>(
+    monos: &mut VecDeque<CellId>,
+    entry: &Entry<N>,
+) -> Result<(), AllocError>
+    ensures ok { OnOk result (monos.new.items ≡ mono_cells (entry.now ∷ []) ++ monos.old.items) }
+    ensures err { OnErr result (monos.new.items ≡ monos.old.items) }
+{
+    match entry {
+        Entry::Mono(cell) => {
+            monos.push_front(*cell)?;
+            Ok(())
+        }
+        Entry::Poly(_, _) => Ok(()),
+    }
+}
+
+/// Takes it away again.
+fn pop_mono<const N: usize>(monos: &mut VecDeque<CellId>, entry: &Entry<N>)
+    ensures { (rest : List ℕ) → monos.old.items ≡ mono_cells (entry.now ∷ []) ++ rest → monos.new.items ≡ rest }
+{
+    match entry {
+        Entry::Mono(_) => {
+            let _cell = monos.pop_front();
+        }
+        Entry::Poly(_, _) => {}
     }
 }

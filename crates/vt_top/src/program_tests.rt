@@ -110,6 +110,10 @@ fn choices_stand_in_every_place(rt: HostRuntime) -> Result<(), Fail> {
         ),
         ("[@A{1, true}; @A{2, false}]", "[@A{Int, Bool}]\n"),
         (
+            "fun a -> fun b -> (@D{a = b, b = a}, (a = 1, b = 1))",
+            "Int -> Int -> Bool * (Bool * Bool)\n",
+        ),
+        (
             "match @A{[1], [true]} with [] -> ? | x :: xs -> x",
             "@A{Int, Bool}\n",
         ),
