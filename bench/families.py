@@ -9,18 +9,16 @@ other programs run beside. A family ends at its first size with no answer.
 
 Each family has a way to be slow: a path through every variant, a shared type walked as a tree, a scheme
 that takes the whole program along. The answer is known, and is compared where it is short. No time is
-asserted. A run is ended after 60 seconds.
+asserted. A run is ended after 60 seconds, or after those that `--limit SECONDS` gives.
 """
+import argparse
 import math
 import os
 import random
 import resource
 import subprocess
-import sys
 import tempfile
 import time
-
-LIMIT = 60
 
 
 def identity(argument):
@@ -204,6 +202,11 @@ def doubled(n):
     return "\n".join([*lines, "x0"]), "type of x12 has more than 4096 nodes" if n > 11 else "Int"
 
 
+def definitions(n):
+    """Definitions of one name, each a number."""
+    return "\n".join([*["def x=1;"] * n, "x"]), "Int"
+
+
 FAMILIES = {
     "chain": (chain, [8, 16, 32, 64]),
     "chain-by-let": (chain_by_let, [8, 16, 32, 64]),
@@ -226,11 +229,12 @@ FAMILIES = {
     "users": (users, [250, 500, 1000, 2000]),
     "users-of-two": (users_of_two, [5, 10, 20, 40]),
     "callers": (callers, [250, 500, 1000, 2000]),
-    "doubled": (doubled, [5, 8, 11, 14, 40]),
+    "doubled": (doubled, [5, 8, 11, 14, 20, 40]),
+    "definitions": (definitions, [2000, 4000, 8000, 16000]),
 }
 
 
-def run(program, text):
+def run(program, text, limit):
     """The seconds by the clock and of the processor, and the first line of the answer or that there was none."""
     with tempfile.TemporaryDirectory() as room:
         file = os.path.join(room, "f")
@@ -238,7 +242,7 @@ def run(program, text):
             it.write(text)
         start, used = time.monotonic(), resource.getrusage(resource.RUSAGE_CHILDREN).ru_utime
         try:
-            ran = subprocess.run([program, "type", file], capture_output=True, text=True, timeout=LIMIT)
+            ran = subprocess.run([program, "type", file], capture_output=True, text=True, timeout=limit)
             answer = (ran.stdout.splitlines() or [f"status {ran.returncode}"])[0]
         except subprocess.TimeoutExpired:
             answer = None
@@ -254,17 +258,21 @@ def growth(sizes, times):
 
 
 def main():
-    program, names = os.path.abspath(sys.argv[1]), sys.argv[2:] or list(FAMILIES)
+    words = argparse.ArgumentParser(description="Times `vtc type` on families of files that grow.")
+    words.add_argument("program", type=os.path.abspath)
+    words.add_argument("families", nargs="*", metavar="family", help=", ".join(FAMILIES) + "; with none, all")
+    words.add_argument("--limit", type=float, default=60, metavar="SECONDS", help="for one run (60)")
+    words = words.parse_args()
     print("| Family | Size | Bytes | User s | Wall s | Growth | Answer |\n|---|---|---|---|---|---|---|")
-    for name in names:
+    for name in words.families or FAMILIES:
         family, sizes = FAMILIES[name]
         times = []
         for size in sizes:
             text, wanted = family(size)
-            wall, user, answer = run(program, text)
+            wall, user, answer = run(words.program, text, words.limit)
             times.append(user)
             if answer is None:
-                print(f"| {name} | {size} | {len(text.encode())} | | over {LIMIT} | | none |", flush=True)
+                print(f"| {name} | {size} | {len(text.encode())} | | over {words.limit:g} | | none |", flush=True)
                 break
             shown = f"`{answer}`" if len(answer) < 40 else f"{len(answer)} characters"
             right = "" if wanted is None else ", right" if wanted == answer else f", wanted `{wanted[:40]}`"
