@@ -53,7 +53,9 @@ fn a_scheme_has_what_its_root_leads_to(rt: HostRuntime) -> Result<(), Fail> {
 #[test]
 fn equal_cells_of_a_scheme_are_one(rt: HostRuntime) -> Result<(), Fail> {
     let mut store = Store::<1>::new(rt.alloc(), Space::All);
-    let mut root = store.con(Head::Int, &[])?;
+    let number = store.con(Head::Int, &[])?;
+    let truth = store.con(Head::Bool, &[])?;
+    let mut root = store.con(Head::Pair, &[number, truth])?;
     for _ in 0..20 {
         let scheme = freeze(rt.alloc(), &store, &[], root)?;
         let one = instance(&mut store, &scheme)?;
@@ -61,6 +63,6 @@ fn equal_cells_of_a_scheme_are_one(rt: HostRuntime) -> Result<(), Fail> {
         root = store.con(Head::Pair, &[one.root, other.root])?;
     }
     let scheme = freeze(rt.alloc(), &store, &[], root)?;
-    assert_eq!(rt; scheme.cells.count(), 21);
+    assert_eq!(rt; scheme.cells.count(), 23);
     Ok(())
 }

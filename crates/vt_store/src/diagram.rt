@@ -177,12 +177,11 @@ impl Diagram {
                 state.write_usize(representative(names, *cell).0);
             }
             Diagram::Con(head, kids) => {
-                state.write_u8(2);
-                state.write_u8(head.arity());
+                feed_head(*head, state);
                 kids.feed(names, state);
             }
             Diagram::Choice(dim, left, right) => {
-                state.write_u8(3);
+                state.write_u8(2);
                 state.write_u32(dim.0);
                 left.get().feed(names, state);
                 right.get().feed(names, state);
@@ -321,6 +320,22 @@ impl Diagram {
                 self.guarded(alloc, within, from, &Some(dim), written)
             }
             _ => self.guarded(alloc, within, from, &None, Diagram::Link(to)),
+        }
+    }
+}
+
+/// Feeds a hasher with a head, apart from all other heads and from what else `Diagram::feed` begins with.
+fn feed_head(head: Head, state: &mut FoldHasher) {
+    match head {
+        Head::Int => state.write_u8(3),
+        Head::Bool => state.write_u8(4),
+        Head::Text => state.write_u8(5),
+        Head::List => state.write_u8(6),
+        Head::Pair => state.write_u8(7),
+        Head::Fun => state.write_u8(8),
+        Head::Data { number, .. } => {
+            state.write_u8(9);
+            state.write_u32(number);
         }
     }
 }
