@@ -1,16 +1,20 @@
-use Rattle.std.proofs.Common.{◌≡◌, ◌≢◌, ◌⊎◌, ℕ, ◌<◌, ◌≤◌, List, [], ◌∷◌, ◌++◌, length, map, get_or, Some, slice_get, refl, ap, sym, subst, ◌∙◌, inl, inr, arith, true≢false, nat_eq}
-use Rattle.std.specs.List.{All, IsDistinct}
+use Rattle.std.proofs.Common.{◌≡◌, ◌≢◌, ◌⊎◌, ℕ, ◌<◌, ◌≤◌, List, [], ◌∷◌, ◌++◌, length, map, get_or, Some, slice_get, refl, ap, sym, subst, ◌∙◌, inl, inr, arith, true≢false, nat_eq, Bool, true, false, not, if◌then◌else◌}
+use Rattle.std.specs.List.{All, IsDistinct, list_any}
 use Rattle.std.proofs.lemmas.Bool.{cases_eq, eqb-true, eq-eqb}
 use Rattle.std.proofs.lemmas.List.{map-append, length-map, length_push, get_or_append_left, get_or_read}
 use Rattle.std.proofs.lemmas.Option.{slice_get_within, get_or_from_slice_get}
 use Rattle.std.proofs.lemmas.List.Elements.{All-nil, All-push, All-contains, All-pop}
 use Rattle.std.proofs.lemmas.Map.Keys.{apart_from_distinct}
 use Rattle.std.proofs.lemmas.Map.Steps.{length-le_from_distinct_below}
+use Rattle.std.specs.Cmp.{nat_eq_equiv}
+use Rattle.std.proofs.lemmas.Map.Views.{list_any-from_Contains}
+use Rattle.indexmap.specs.IndexSet.{insert_key}
 use Rattle.indexmap.proofs.CallerLemmas.{Contains-list_any}
 use Rattle.vt_type.specs.declared.head.Head.{Head}
 use Rattle.vt_store.specs.declared.diagram.Diagram.{Diagram, Open, Link, Con, Choice}
 use Rattle.vt_store.specs.Diagrams.{choice, HasCells, mapped}
 use Rattle.vt_store.specs.Parts.{AreDistinct, AreFew, IsLater, IsFound, AreMoved, IsMoved, AreCopied}
+use Rattle.vt_store.specs.Narrowing.{IsWhether, IsAdded}
 use Rattle.vt_store.proofs.Cells.{All-head, All-tail, All-each}
 use Rattle.vt_store.proofs.Writing.{le_or_lt}
 use Rattle.vt_store.proofs.StoreSteps.{HasCells-more}
@@ -35,6 +39,22 @@ pub AreFew-keys : (found : List ℕ) → IsDistinct nat_eq found → AreFew foun
 AreFew-keys found distinct count below =
     length-le_from_distinct_below found count distinct
     (λ cell among. All-contains (λ own. own < count) found cell below (Contains-list_any nat_eq eqb-true found cell among))
+
+-- ---- whether a cell was found
+
+pub IsWhether-any : (found : List ℕ) (cell : ℕ) → IsWhether found cell (list_any (nat_eq cell) found)
+IsWhether-any found cell = by (list_any (nat_eq cell) found) refl
+  where
+    by : (is : Bool) → list_any (nat_eq cell) found ≡ is → IsWhether found cell is
+    by true e = Contains-list_any nat_eq eqb-true found cell e
+    by false e = λ has. true≢false (sym (list_any-from_Contains nat_eq_equiv cell found has) ∙ e)
+
+pub IsAdded-key : (found : List ℕ) (cell : ℕ) → IsAdded found (insert_key nat_eq found cell) cell (not (list_any (nat_eq cell) found))
+IsAdded-key found cell = by (list_any (nat_eq cell) found) (IsWhether-any found cell)
+  where
+    by : (is : Bool) → IsWhether found cell is → IsAdded found (if is then found else found ++ cell ∷ []) cell (not is)
+    by true has = (refl, has)
+    by false has = refl
 
 -- ---- more cells are found
 
@@ -170,3 +190,8 @@ AreCopied-next diagrams mid new copies later from copy cell place last room at r
 -- what a set answers for a place
 pub found_at : (keys : List ℕ) (place cell : ℕ) → Some cell ≡ slice_get keys place → (place < length keys) × (cell ≡ get_or keys place 0)
 found_at keys place cell e = (slice_get_within keys place cell (sym e), sym (get_or_from_slice_get keys place cell 0 (sym e)))
+
+-- what holds of all that were found and of one more
+pub All-added : (P : ℕ → Type 0) (old new : List ℕ) (cell : ℕ) (is : Bool) → IsAdded old new cell is → All P old → P cell → All P new
+All-added P old new cell true added h one = subst (All P) (sym added) (All-push P old cell h one)
+All-added P old new cell false added h one = subst (All P) (sym added.0) h

@@ -2,6 +2,7 @@ pub mod Cells
 pub mod Acyclic
 pub mod MostGeneral
 pub mod Widening
+pub mod OneSided
 pub mod Finding
 pub mod Slices
 pub mod Links
@@ -14,3 +15,9 @@ pub mod Appending
 pub mod Parting
 pub mod StandingIn
 pub mod Representing
+pub mod SideLemmas
+pub mod Walking
+pub mod Pairing
+pub mod NarrowedStore
+pub mod Narrowed
+pub mod Straight

@@ -14,7 +14,7 @@ use Rattle.vt_store.specs.declared.diagram.Diagram.{Diagram, Open, Link, Con, Ch
 use Rattle.vt_store.specs.Diagrams.{choice, end_in, HasCells, IsDiagram, IsJoined, mapped}
 use Rattle.vt_store.specs.Writes.{IsOf}
 use Rattle.vt_store.specs.Stores.{Cells, end_of, ends_at, cell_count, IsStore}
-use Rattle.vt_store.specs.Sharing.{IsNowhereOpen, AreAlike, diagram_of, MayStand, AreRepresentatives, IsFoundFor, IsRepresented, AreRepresented, MayStandAt, IsSharedAt, IsShared}
+use Rattle.vt_store.specs.Sharing.{IsNowhereOpen, AreAlike, diagram_of, MayStand, AreNames, AreRepresentatives, IsFoundFor, IsRepresented, AreRepresented, MayStandAt, IsSharedAt, IsShared}
 use Rattle.vt_store.proofs.Cells.{All-head, All-tail}
 use Rattle.vt_store.proofs.Finding.{get_or-push}
 use Rattle.vt_store.proofs.Parting.{end_in-mapped}
@@ -152,6 +152,9 @@ AreRepresentatives-itself diagrams names are = record {
     itself : (cell : ℕ) → cell < length diagrams → get_or names cell 0 ≡ cell
     itself cell inside = ap (λ own. get_or own cell 0) are ∙ get_or-map-range_with_len (λ own. own) 0 (length diagrams) cell cell 0 inside (omega arith)
 
+pub AreNames-representatives : (diagrams : List Diagram) (names : List ℕ) → AreRepresentatives diagrams 0 names → AreNames diagrams names
+AreNames-representatives diagrams names are = record { sized = are.sized; cells = are.cells; stand = are.stand }
+
 -- ---- a diagram whose cells are replaced
 
 pub IsRepresented-open : (names : List ℕ) → IsRepresented names Open Open
@@ -208,20 +211,22 @@ IsRepresented-choice names dim diagram left right lefts rights made is joined l 
 
 -- ---- the diagrams of all cells are replaced
 
-pub AreRepresented-more : (names : List ℕ) (diagrams copies later : List Diagram) (place : ℕ) (from copy : Diagram) → place < length diagrams → from ≡ get_or diagrams place from → later ≡ copies ++ copy ∷ []
-    → length copies ≡ place → ((cell : ℕ) → cell < place → IsRepresented names (diagram_of diagrams cell) (diagram_of copies cell)) → IsRepresented names from copy
-    → (length later ≡ place + 1) × ((cell : ℕ) → cell < place + 1 → IsRepresented names (diagram_of diagrams cell) (diagram_of later cell))
-AreRepresented-more names diagrams copies later place from copy within read pushed sized each one =
+-- one more diagram has its copy, whatever there is between the two
+pub copies-more : (R : ℕ → Diagram → Diagram → Type 0) (diagrams copies later : List Diagram) (place : ℕ) (from copy : Diagram) → place < length diagrams → from ≡ get_or diagrams place from → later ≡ copies ++ copy ∷ []
+    → length copies ≡ place → ((cell : ℕ) → cell < place → R cell (diagram_of diagrams cell) (diagram_of copies cell)) → R place from copy
+    → (length later ≡ place + 1) × ((cell : ℕ) → cell < place + 1 → R cell (diagram_of diagrams cell) (diagram_of later cell))
+copies-more R diagrams copies later place from copy within read pushed sized each one =
     (ap length pushed ∙ length_push copies copy ∙ ap (λ own. own + 1) sized, λ cell lt. by cell (le_or_lt place cell) lt)
   where
-    by : (cell : ℕ) → (place ≤ cell) ⊎ (cell < place) → cell < place + 1 → IsRepresented names (diagram_of diagrams cell) (diagram_of later cell)
+    by : (cell : ℕ) → (place ≤ cell) ⊎ (cell < place) → cell < place + 1 → R cell (diagram_of diagrams cell) (diagram_of later cell)
     by cell (inr lt) below =
-        subst (IsRepresented names (diagram_of diagrams cell)) (sym (ap (λ own. get_or own cell Open) pushed ∙ get_or_append_left copies (copy ∷ []) Open cell (omega (arith, sized)))) (each cell lt)
+        subst (R cell (diagram_of diagrams cell)) (sym (ap (λ own. get_or own cell Open) pushed ∙ get_or_append_left copies (copy ∷ []) Open cell (omega (arith, sized)))) (each cell lt)
     by cell (inl le) below =
+        let here : place ≡ cell = omega arith in
         let last : cell ≡ length copies = omega (arith, sized) in
         let end : diagram_of later cell ≡ copy = ap (λ own. get_or own cell Open) pushed ∙ ap (λ own. get_or (copies ++ copy ∷ []) own Open) last ∙ get_or-push copies copy Open in
         let start : diagram_of diagrams cell ≡ from = ap (diagram_of diagrams) (last ∙ sized) ∙ sym (get_or_read diagrams place from within read Open) in
-        subst (IsRepresented names (diagram_of diagrams cell)) (sym end) (subst (λ own. IsRepresented names own copy) (sym start) one)
+        subst (R cell (diagram_of diagrams cell)) (sym end) (subst (λ own. R cell own copy) (sym start) (subst (λ own. R own from copy) here one))
 
 -- ---- two diagrams are compared
 
@@ -245,7 +250,7 @@ bound_end decision (choice dim left right) h free = by (slice_get decision dim) 
     by (Some Right) l r = r
     by None l r = l
 
-module _ (N : ℕ) (whole new : Cells) (names : List ℕ) (good : IsStore N whole) (are : AreRepresentatives whole.cells 0 names) (made : AreRepresented names whole.cells new.cells)
+module _ (N : ℕ) (whole new : Cells) (names : List ℕ) (good : IsStore N whole) (are : AreNames whole.cells names) (made : AreRepresented names whole.cells new.cells)
     (space : new.space ≡ whole.space) where
   abbrev name : ℕ → ℕ
   name cell = get_or names cell 0

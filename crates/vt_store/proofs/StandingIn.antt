@@ -72,7 +72,7 @@ map-each_cell : (P Q : ℕ → Type 0) (name : ℕ → ℕ) (kids : List ℕ) �
 map-each_cell P Q name [] step h = All-nil Q
 map-each_cell P Q name (kid ∷ kids) step h = All-cons Q (name kid) (map name kids) (step kid (All-head P kid kids h)) (map-each_cell P Q name kids step (All-tail P kid kids h))
 
-each-named : (P Q : ℕ → Type 0) (name : ℕ → ℕ) (end : CellEnd) → ((cell : ℕ) → P cell → Q (name cell)) → EachCell P end → EachCell Q (mapped_end name end)
+pub each-named : (P Q : ℕ → Type 0) (name : ℕ → ℕ) (end : CellEnd) → ((cell : ℕ) → P cell → Q (name cell)) → EachCell P end → EachCell Q (mapped_end name end)
 each-named P Q name Free step h = tt
 each-named P Q name (Same cell) step h = step cell h
 each-named P Q name (Made head kids) step h = map-each_cell P Q name kids step h

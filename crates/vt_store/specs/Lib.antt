@@ -9,4 +9,5 @@ pub mod Views
 pub mod Stores
 pub mod Parts
 pub mod Sharing
+pub mod Narrowing
 pub mod Laws

@@ -1,4 +1,4 @@
-use Rattle.std.specs.Prelude.{◌≡◌, ◌⊎◌, ℕ, ◌<◌, ◌≤◌, ◌↔◌, List, length, slice_index, slice_index_or}
+use Rattle.std.specs.Prelude.{◌≡◌, ◌⊎◌, ℕ, zero, suc, ◌<◌, ◌≤◌, ◌↔◌, List, length, slice_index, slice_index_or}
 use Rattle.std.specs.List.{All}
 use Rattle.vt_dec.specs.declared.side.Side.{Side}
 use Rattle.vt_type.specs.declared.plain.Plain.{Plain}
@@ -49,6 +49,29 @@ diagram_of diagrams cell = slice_index_or diagrams cell Open
 -- why one cell may stand for another
 abbrev pub MayStand : List Diagram → List ℕ → ℕ → ℕ → Type 0
 MayStand diagrams names cell name = (name ≡ cell) ⊎ (IsLinkTo names (diagram_of diagrams cell) name ⊎ AreAlike names (diagram_of diagrams cell) (diagram_of diagrams name))
+
+-- a representative for each cell, which may stand for it
+pub record AreNames (diagrams : List Diagram) (names : List ℕ) : Type 0 where
+  pub sized : length names ≡ length diagrams
+  pub cells : All (λ name. name < length diagrams) names
+  pub stand : (cell : ℕ) → cell < length diagrams → MayStand diagrams names cell (slice_index names cell)
+
+-- the next cell, where a diagram is a link at every decision
+abbrev pub next_cell : Diagram → ℕ → ℕ
+next_cell Open cell = cell
+next_cell (Link next) cell = next
+next_cell (Con head kids) cell = cell
+next_cell (choice dim left right) cell = cell
+
+-- the cell to which so many links lead, or at which they end before
+abbrev pub followed : List Diagram → ℕ → ℕ → ℕ
+followed diagrams zero cell = cell
+followed diagrams (suc most) cell = followed diagrams most (next_cell (diagram_of diagrams cell) cell)
+
+-- each cell has the one at which its links end
+pub record AreStraight (diagrams : List Diagram) (names : List ℕ) : Type 0 where
+  pub sized : length names ≡ length diagrams
+  pub each : (cell : ℕ) → cell < length diagrams → slice_index names cell ≡ followed diagrams (length diagrams) cell
 
 -- The representatives of all cells, of which those from one on were looked at: a cell before them stands for itself
 -- alone, and none of them is represented by one before them.

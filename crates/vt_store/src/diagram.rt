@@ -68,7 +68,7 @@ impl Diagram {
     }
 
     /// The same diagram again.
-    fn copied(&self, alloc: Global) -> Result<Diagram, AllocError>
+    pub(crate) fn copied(&self, alloc: Global) -> Result<Diagram, AllocError>
         ensures { IfOk result (λ diagram. diagram ≡ self.now) }
     {
         match self {
@@ -131,7 +131,8 @@ impl Diagram {
 
     /// Where a link at every decision leads.
     pub(crate) fn target(&self) -> Option<CellId>
-        ensures { IfSome result (λ cell. self.now ≡ Link cell) }
+        ensures link { IfSome result (λ cell. self.now ≡ Link cell) }
+        ensures none { result ≡ None → (cell : ℕ) → self.now ≡ Link cell → ⊥ }
     {
         match self {
             Diagram::Link(cell) => Some(*cell),

@@ -1,5 +1,6 @@
-ghost use Rattle.std.specs.Prelude.{◌≡◌, ◌<◌, ◌≤◌, [], length, slice_index, IfOk, MatchOption};
+ghost use Rattle.std.specs.Prelude.{◌≡◌, ◌<◌, ◌≤◌, [], length, slice_index, IfOk, OnOk, MatchOption};
 ghost use Rattle.vt_store.specs.Parts.{AreDistinct, AreFew, AreMoved, IsFound};
+ghost use Rattle.vt_store.specs.Narrowing.{IsAdded, IsWhether};
 
 use crate::{CellId, CellList};
 use indexmap::IndexSet;
@@ -40,6 +41,30 @@ impl Found {
     {
         let cell = self.cells.get_index(place)?;
         Some(CellId(*cell))
+    }
+
+    /// The numbers of the cells, in order.
+    pub(crate) fn as_slice(&self) -> &[usize]
+        ensures cells { result.now ≡ self.now }
+        ensures distinct { AreDistinct self.now }
+    {
+        self.cells.as_slice()
+    }
+
+    /// Whether a cell is there.
+    pub(crate) fn contains(&self, cell: CellId) -> bool
+        ensures { IsWhether self.now cell result }
+    {
+        self.cells.contains(&cell.0)
+    }
+
+    /// Adds a cell at the end, and says whether it is new.
+    pub(crate) fn add(&mut self, cell: CellId) -> Result<bool, AllocError>
+        ensures added { IfOk result (IsAdded self.old self.new cell) }
+        ensures few { OnOk result (AreFew self.new) }
+    {
+        let (_, is_new) = self.cells.insert_full(cell.0)?;
+        Ok(is_new)
     }
 
     /// The place of a cell, which is added at the end where it is new.

@@ -5,7 +5,8 @@
 //! decisions are still alive. Both are kept as diagrams, in which a decision finds its way by the
 //! sides that it takes. The layers above speak of ends and fates at decisions, and never of diagrams:
 //! read `specs/Ends.antt` and `specs/Solutions.antt` first, then `store.rt` and `pattern.rt`. Some cells,
-//! with all to which they lead, can be taken out as a store of their own: `specs/Parts.antt`.
+//! with all to which they lead, can be taken out as a store of their own: `specs/Parts.antt`. Cells that
+//! say the same can be made one: `specs/Sharing.antt` and `specs/Narrowing.antt`.
 #![tactic(auto)]
 
 mod cell_list;
@@ -14,6 +15,7 @@ mod fates;
 mod found;
 mod ids;
 pub mod laws;
+mod narrowing;
 mod pattern;
 mod sharing;
 mod store;

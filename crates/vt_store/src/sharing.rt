@@ -2,7 +2,7 @@
 ghost use Rattle.std.specs.Prelude.{◌≡◌, ◌<◌, length, slice_index, IfOk};
 ghost use Rattle.std.specs.List.{All};
 ghost use Rattle.vt_store.specs.Diagrams.{HasCells};
-ghost use Rattle.vt_store.specs.Sharing.{AreRepresentatives, AreRepresented, IsFoundFor};
+ghost use Rattle.vt_store.specs.Sharing.{AreRepresentatives, AreRepresented, AreStraight, IsFoundFor, followed};
 
 use crate::CellId;
 use crate::diagram::Diagram;
@@ -40,8 +40,36 @@ pub(crate) fn representatives(
     Ok(names)
 }
 
+/// For each cell the one at which its links end, as far as they are links at every decision.
+pub(crate) fn straight(alloc: Global, diagrams: &[Diagram]) -> Result<Vec<CellId>, AllocError>
+    requires { All (HasCells (length diagrams.now)) diagrams.now }
+    ensures { IfOk result (λ names. AreStraight diagrams.now names.items) }
+{
+    let mut names = Vec::with_capacity(alloc, diagrams.len())?;
+    for cell in 0..diagrams.len() {
+        names.push(last(diagrams, CellId(cell)))?;
+    }
+    Ok(names)
+}
+
+/// The cell at which the links of a cell end.
+fn last(diagrams: &[Diagram], cell: CellId) -> CellId
+    requires diagrams { All (HasCells (length diagrams.now)) diagrams.now }
+    requires cell { cell < length diagrams.now }
+    ensures { result ≡ followed diagrams.now (length diagrams.now) cell }
+{
+    let mut last = cell;
+    for _ in 0..diagrams.len() {
+        match diagrams[last.0].target() {
+            Some(next) => last = next,
+            None => return last,
+        }
+    }
+    last
+}
+
 /// Each cell as its own representative.
-fn each_itself(alloc: Global, diagrams: &[Diagram]) -> Result<Vec<CellId>, AllocError>
+pub(crate) fn each_itself(alloc: Global, diagrams: &[Diagram]) -> Result<Vec<CellId>, AllocError>
     ensures { IfOk result (λ names. AreRepresentatives diagrams.now (length diagrams.now) names.items) }
 {
     let mut names = Vec::with_capacity(alloc, diagrams.len())?;

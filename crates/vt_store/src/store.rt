@@ -8,12 +8,14 @@ ghost use Rattle.vt_store.specs.Writes.{IsOf};
 ghost use Rattle.vt_store.specs.Diagrams.{raised, HasCells, HasRoom};
 ghost use Rattle.vt_store.specs.Views.{seen, LooksAs};
 ghost use Rattle.vt_store.specs.Parts.{IsPart, AreTaken};
-ghost use Rattle.vt_store.specs.Sharing.{IsShared};
+ghost use Rattle.vt_store.specs.Sharing.{AreNames, IsShared};
+ghost use Rattle.vt_store.specs.Narrowing.{AreIn, IsCutTo, IsNarrowed, IsWhole};
 ghost use Rattle.vt_store.specs.Stores.{ends_at, cell_count, IsUnchanged, Adds, IsBound, IsAppended, one_of, IsCellBranch, IsOneEnd};
 
 use crate::diagram::Diagram;
 use crate::found::Found;
-use crate::sharing::{representative, representatives, represented};
+use crate::narrowing::{dims, on_sides, pairs, reached_on_both};
+use crate::sharing::{representative, representatives, represented, straight};
 use crate::{CellId, CellList, End, Look};
 use std::alloc::{AllocError, Global};
 use std::marker::Model;
@@ -42,6 +44,46 @@ pub struct Part<const N: usize> {
 pub struct Shared<const N: usize> {
     pub store: Store<N>,
     pub representatives: CellList,
+}
+
+impl<const N: usize> Part<N> {
+    /// A part whose cells and root have the same types at every decision, in which each cell is as it is
+    /// where they lead to it. On either side of a dimension a cell may be bound that they lead to on the
+    /// other one alone, and it may be open on its own side and not there; such a cell is bound alike on
+    /// both, and open cells of the two sides are made one, in pairs. Sides that say the same are then
+    /// equal, and `Store::shared` can join them. This takes time by the part for each dimension.
+    pub fn narrowed(self, alloc: Global) -> Result<Part<N>, AllocError>
+        requires { AreIn self }
+        ensures { IfOk result (IsNarrowed N self.entry.store self.entry.cells self.entry.root) }
+    {
+        // Each decision of the space must have the one that differs from it in one dimension alone.
+        if let Space::AtMost(_) = self.store.space {
+            return Ok(self);
+        }
+        let dims = dims(alloc, &self.store.cells)?;
+        let mut part = self;
+        for dim in &dims {
+            if (dim.0 as usize) / 64 < N {
+                part = part.narrowed_at(alloc, *dim)?;
+            }
+        }
+        Ok(part)
+    }
+
+    /// The same for one dimension.
+    fn narrowed_at(&self, alloc: Global, dim: Dim) -> Result<Part<N>, AllocError>
+        requires inside { AreIn self.now }
+        requires space { IsWhole self.now.store.space }
+        requires dim { dim < 64 * N }
+        ensures { IfOk result (IsNarrowed N self.now.store self.now.cells self.now.root) }
+    {
+        let (store, names) = self.store.cut(alloc, &self.cells, self.root, dim)?;
+        Ok(Part {
+            store,
+            cells: self.cells.represented(alloc, &names)?,
+            root: representative(&names, self.root),
+        })
+    }
 }
 
 impl<const N: usize> Shared<N> {
@@ -219,6 +261,23 @@ impl<const N: usize> Store<N> {
         ensures shared { IfOk result (IsShared N self.now) }
     {
         let names = representatives(alloc, &self.cells)?;
+        self.named(alloc, names)
+    }
+
+    /// The same cells, where a cell that is a link at every decision gives way to the one at which its
+    /// links end.
+    pub fn straightened(&self, alloc: Global) -> Result<Shared<N>, AllocError>
+        ensures shared { IfOk result (IsShared N self.now) }
+    {
+        let names = straight(alloc, &self.cells)?;
+        self.named(alloc, names)
+    }
+
+    /// The same cells, where each gives way to its representative.
+    fn named(&self, alloc: Global, names: Vec<CellId>) -> Result<Shared<N>, AllocError>
+        requires { AreNames self.now.cells names.items }
+        ensures { IfOk result (IsShared N self.now) }
+    {
         let cells = represented(alloc, &self.cells, &names)?;
         let store = Store {
             cells,
@@ -229,6 +288,32 @@ impl<const N: usize> Store<N> {
             store,
             representatives: CellList::new(names),
         })
+    }
+
+    /// The cells as they are on the sides of the dimension on which some cells and the root lead to them,
+    /// and a name for each.
+    fn cut(
+        &self,
+        alloc: Global,
+        cells: &CellList,
+        root: CellId,
+        dim: Dim,
+    ) -> Result<(Store<N>, Vec<CellId>), AllocError>
+        requires cells { All (λ cell. cell < cell_count self.now) cells.now }
+        requires root { root < cell_count self.now }
+        requires space { IsWhole self.now.space }
+        requires dim { dim < 64 * N }
+        ensures { IfOk result (λ made. IsCutTo N self.now cells.now root made.0 made.1.items) }
+    {
+        let sides = reached_on_both(alloc, &self.cells, cells, root, dim)?;
+        let cut = on_sides(alloc, &self.cells, dim, &sides)?;
+        let names = pairs(alloc, &cut, &sides)?;
+        let store = Store {
+            cells: represented(alloc, &cut, &names)?,
+            alloc,
+            space: self.space,
+        };
+        Ok((store, names))
     }
 
     /// What a cell is bound to at a decision, once links are followed.

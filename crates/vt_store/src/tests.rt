@@ -83,3 +83,19 @@ fn a_list_of_cells_gives_its_cells(rt: HostRuntime) -> Result<(), Fail> {
     assert!(rt; cells.as_slice() == [CellId(3), CellId(1)].as_slice());
     Ok(())
 }
+
+#[test]
+fn a_part_is_narrowed_and_straightened(rt: HostRuntime) -> Result<(), Fail> {
+    let mut store = Store::<1>::new(rt.alloc(), Space::All);
+    let one = store.fresh()?;
+    let other = store.fresh()?;
+    let left = store.con(Head::List, &[one])?;
+    let right = store.con(Head::List, &[other])?;
+    let root = store.choice(Dim(0), left, right)?;
+    let part = store.part(rt.alloc(), &[], root)?;
+    let narrowed = part.narrowed(rt.alloc())?;
+    assert_eq!(rt; narrowed.store.count(), 5);
+    let straight = narrowed.store.straightened(rt.alloc())?;
+    assert_eq!(rt; straight.store.count(), 5);
+    Ok(())
+}
