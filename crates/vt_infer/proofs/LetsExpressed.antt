@@ -41,8 +41,8 @@ frozen_allows : (N : ℕ) (store : Cells) (monos : List ℕ) (root : ℕ) (schem
     → (decision : List Side) → IsOf N store.space decision → (types : List Plain) (type : Plain)
     → Allows scheme decision types type ↔ ((s : ℕ → Plain) × solutions_at store decision s × (map s monos ≡ types) × (s root ≡ type))
 frozen_allows N store monos root scheme frozen decision of types type = (
-  λ allowed. let has = (frozen.allows decision of types type).0 allowed in (has.s, has.solves, has.monos_are, has.root_is),
-  λ given. (frozen.allows decision of types type).1 (record { s = given.0; solves = given.1; monos_are = given.2; root_is = given.3 }),
+  λ allowed. let has = (frozen.allows decision of types type).0 allowed in (has.s, has.solves, has.cells_are, has.root_is),
+  λ given. (frozen.allows decision of types type).1 (record { s = given.0; solves = given.1; cells_are = given.2; root_is = given.3 }),
 )
 
 -- a property of all nodes, by the list of their numbers

@@ -75,14 +75,14 @@ module _ (N : ℕ) (store : Cells) (root : ℕ) (scheme : Scheme N) (frozen : Is
   pub frozen_allows : (type : Plain) → Allows scheme decision [] type ↔ ((s : ℕ → Plain) × Solves (cell_count store) (ends_at store decision) s × (s root ≡ type))
   frozen_allows type = (
     λ allows. let h = (frozen.allows decision of [] type).0 allows in (h.s, h.solves, h.root_is),
-    λ given. (frozen.allows decision of [] type).1 (record { s = given.0; solves = given.1; monos_are = refl; root_is = given.2 }),
+    λ given. (frozen.allows decision of [] type).1 (record { s = given.0; solves = given.1; cells_are = refl; root_is = given.2 }),
   )
 
   pub frozen_types : (type : Plain)
       → ((s : ℕ → Plain) × Solves (cell_count scheme.cells) (ends_at scheme.cells decision) s × (s scheme.root ≡ type))
       ↔ ((s : ℕ → Plain) × Solves (cell_count store) (ends_at store decision) s × (s root ≡ type))
   frozen_types type = (
-    λ given. (frozen_allows type).0 (record { s = given.0; solves = given.1; monos_are = ap (map given.0) no_monos; root_is = given.2 }),
+    λ given. (frozen_allows type).0 (record { s = given.0; solves = given.1; cells_are = ap (map given.0) no_monos; root_is = given.2 }),
     λ given. let h = (frozen_allows type).1 given in (h.s, h.solves, h.root_is),
   )
 

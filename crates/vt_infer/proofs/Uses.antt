@@ -141,7 +141,7 @@ module _ (N : ℕ) (region : Region) where
       old = is_copy.kept decision of;
       again = λ s solves.
           let some = own decision (of_same N region old scheme.cells decision space of) in
-          let more = is_copy.gives decision of s solves (map some.0 scheme.monos) (some.0 scheme.root) (record { s = some.0; solves = some.1; monos_are = refl; root_is = refl }) in
+          let more = is_copy.gives decision of s solves (map some.0 scheme.monos) (some.0 scheme.root) (record { s = some.0; solves = some.1; cells_are = refl; root_is = refl }) in
           (more.other, more.solves, more.agrees);
     }
 

@@ -135,7 +135,7 @@ module _ {N : ℕ} (scheme : Scheme N) (old new : Cells) (is : IsAppended old sc
     takes decision s solves = record {
       s = λ cell. s (cell + by);
       solves = Solves-copy decision s solves;
-      monos_are = sym (map_both s (λ cell. cell + by) scheme.monos) ∙ ap (map s) (sym monos);
+      cells_are = sym (map_both s (λ cell. cell + by) scheme.monos) ∙ ap (map s) (sym monos);
       root_is = ap s (sym root);
     }
 
@@ -148,7 +148,7 @@ module _ {N : ℕ} (scheme : Scheme N) (old new : Cells) (is : IsAppended old sc
       monos_are =
           ap (map (joined by s allowed.s)) monos
           ∙ map_moved allowed.s (joined by s allowed.s) (λ cell. cell + by) more scheme.monos (λ own within. joined-new by s allowed.s own) cells.monos
-          ∙ allowed.monos_are;
+          ∙ allowed.cells_are;
       root_is = ap (joined by s allowed.s) root ∙ joined-new by s allowed.s scheme.root ∙ allowed.root_is;
     }
 

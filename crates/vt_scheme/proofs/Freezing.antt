@@ -39,7 +39,7 @@ module _ {N : ℕ} (store : Cells) (monos : List ℕ) (root : ℕ) (part : Part 
         record {
           s = found.wide;
           solves = found.solves;
-          monos_are = ap (map found.wide) (sym is.cells_are) ∙ map_moved has.s found.wide is.origin (cell_count part.store) part.cells found.same is.cells_within ∙ has.monos_are;
+          cells_are = ap (map found.wide) (sym is.cells_are) ∙ map_moved has.s found.wide is.origin (cell_count part.store) part.cells found.same is.cells_within ∙ has.cells_are;
           root_is = ap found.wide (sym is.root_is) ∙ found.same part.root is.root_within ∙ has.root_is;
         }
 
@@ -47,7 +47,7 @@ module _ {N : ℕ} (store : Cells) (monos : List ℕ) (root : ℕ) (part : Part 
     narrower has = record {
       s = λ cell. has.s (is.origin cell);
       solves = (alike_at decision of).narrows has.s has.solves;
-      monos_are = sym (map_both has.s is.origin part.cells) ∙ ap (map has.s) is.cells_are ∙ has.monos_are;
+      cells_are = sym (map_both has.s is.origin part.cells) ∙ ap (map has.s) is.cells_are ∙ has.cells_are;
       root_is = ap has.s is.root_is ∙ has.root_is;
     }
 

@@ -1,10 +1,12 @@
-use Rattle.std.proofs.Common.{◌≡◌, ℕ, Result, Ok, Err, IfOk, ◌<◌, List, map, get_or, sym, subst, ◌∙◌, arith}
+use Rattle.std.proofs.Common.{◌≡◌, ◌↔◌, ℕ, Result, Ok, Err, IfOk, ◌<◌, List, length, map, get_or, ap, sym, subst, ◌∙◌, arith}
 use Rattle.std.specs.List.{All}
 use Rattle.std.proofs.lemmas.List.{length-map}
 use Rattle.std.proofs.lemmas.List.Elements.{All-map, All-weaker}
 use Rattle.vt_dec.specs.declared.side.Side.{Side}
 use Rattle.vt_type.specs.declared.plain.Plain.{Plain}
+use Rattle.vt_store.specs.declared.store.Part.{Part}
 use Rattle.vt_store.specs.declared.store.Shared.{Shared}
+use Rattle.vt_store.specs.Narrowing.{IsNarrowed}
 use Rattle.vt_store.specs.Sharing.{IsShared}
 use Rattle.vt_store.specs.Solutions.{Solves}
 use Rattle.vt_store.specs.Stores.{Cells, cell_count, ends_at}
@@ -26,6 +28,12 @@ IsFrozen-both N store monos root scheme last first second = record {
       let outer = first.allows decision of types type in
       (λ has. outer.0 (inner.0 has), λ has. inner.1 (outer.1 has)));
 }
+
+-- likewise of what may not have been given
+pub if_frozen : {E : Type 0} (N : ℕ) (store : Cells) (monos : List ℕ) (root : ℕ) (scheme : Scheme N) (list : List ℕ) → IsFrozen N store monos root scheme → list ≡ scheme.monos
+    → (result : Result (Scheme N) E) → IfOk result (IsFrozen N scheme.cells list scheme.root) → IfOk result (IsFrozen N store monos root)
+if_frozen N store monos root scheme list first same (Ok last) h = IsFrozen-both N store monos root scheme last first (subst (λ own. IsFrozen N scheme.cells own scheme.root last) same h)
+if_frozen N store monos root scheme list first same (Err error) h = tt
 
 module _ (N : ℕ) (store : Cells) (shared : Shared N) (is : IsShared N store shared) (monos : List ℕ) (root : ℕ)
     (monos_within : All (λ cell. cell < cell_count store) monos) (root_within : root < cell_count store) where
@@ -54,31 +62,36 @@ module _ (N : ℕ) (store : Cells) (shared : Shared N) (is : IsShared N store sh
     unnamed : HasTypes shared.store (map name monos) (name root) decision types type → HasTypes store monos root decision types type
     unnamed has =
         let solves = of_store has.s has.solves in
-        record { s = has.s; solves = solves; monos_are = sym (same_monos has.s solves) ∙ has.monos_are; root_is = sym (is.same decision of has.s solves root root_within) ∙ has.root_is }
+        record { s = has.s; solves = solves; cells_are = sym (same_monos has.s solves) ∙ has.cells_are; root_is = sym (is.same decision of has.s solves root root_within) ∙ has.root_is }
 
     named : HasTypes store monos root decision types type → HasTypes shared.store (map name monos) (name root) decision types type
     named has = record {
       s = has.s;
       solves = as_shared has.s ((is.solutions decision of has.s).0 has.solves);
-      monos_are = same_monos has.s has.solves ∙ has.monos_are;
+      cells_are = same_monos has.s has.solves ∙ has.cells_are;
       root_is = is.same decision of has.s has.solves root root_within ∙ has.root_is;
     }
 
-  pub IsFrozen-shared : (last : Scheme N) → IsFrozen N shared.store (map name monos) (name root) last → IsFrozen N store monos root last
-  IsFrozen-shared last frozen = record {
-    space = frozen.space ∙ is.space;
-    cells = frozen.cells;
-    count = frozen.count ∙ length-map monos name;
+  pub IsFrozen-shared : (last : Scheme N) → last.cells ≡ shared.store → last.monos ≡ map name monos → last.root ≡ name root → IsFrozen N store monos root last
+  IsFrozen-shared last cells list one = record {
+    space = ap (λ (own : Cells). own.space) cells ∙ is.space;
+    cells = record {
+      monos = subst (λ (own : Cells). All (λ cell. cell < cell_count own) last.monos) (sym cells) (subst (All (λ cell. cell < cell_count shared.store)) (sym list) names_within);
+      root = subst (λ (own : Cells). last.root < cell_count own) (sym cells) (subst (λ cell. cell < cell_count shared.store) (sym one) root_name_within);
+    };
+    count = ap length list ∙ length-map monos name;
     allows = λ decision of types type.
-        (let inner = frozen.allows decision (subst (λ space. IsOf N space decision) (sym is.space) of) types type in
-        (λ has. unnamed decision of types type (inner.0 has), λ has. inner.1 (named decision of types type has)));
+        subst (λ (own : Cells). HasTypes own last.monos last.root decision types type ↔ HasTypes store monos root decision types type) (sym cells)
+        (subst (λ own. HasTypes shared.store own last.root decision types type ↔ HasTypes store monos root decision types type) (sym list)
+        (subst (λ own. HasTypes shared.store (map name monos) own decision types type ↔ HasTypes store monos root decision types type) (sym one)
+        (unnamed decision of types type, named decision of types type)));
   }
 
--- likewise of what may not have been given
-pub if_frozen : {E : Type 0} (N : ℕ) (store : Cells) (shared : Shared N) (is : IsShared N store shared) (monos : List ℕ) (root : ℕ) → All (λ cell. cell < cell_count store) monos → root < cell_count store
-    → (cells : List ℕ) (one : ℕ) → cells ≡ map (λ cell. get_or shared.representatives cell 0) monos → one ≡ get_or shared.representatives root 0
-    → (result : Result (Scheme N) E) → IfOk result (IsFrozen N shared.store cells one) → IfOk result (IsFrozen N store monos root)
-if_frozen N store shared is monos root within inside cells one same also (Ok last) h =
-    IsFrozen-shared N store shared is monos root within inside last
-    (subst (λ own. IsFrozen N shared.store (map (λ cell. get_or shared.representatives cell 0) monos) own last) also (subst (λ own. IsFrozen N shared.store own one last) same h))
-if_frozen N store shared is monos root within inside cells one same also (Err error) h = tt
+-- so is one that was narrowed
+pub IsFrozen-narrowed : (N : ℕ) (store : Cells) (monos : List ℕ) (root : ℕ) (part : Part N) → IsNarrowed N store monos root part → IsFrozen N store monos root (record { cells = part.store; monos = part.cells; root = part.root })
+IsFrozen-narrowed N store monos root part is = record {
+  space = is.space;
+  cells = record { monos = is.inside.cells; root = is.inside.root };
+  count = is.count;
+  allows = λ decision of types type. ((is.types decision of types type).0, (is.types decision of types type).1);
+}

@@ -5,15 +5,9 @@ use Rattle.vt_type.specs.declared.plain.Plain.{Plain}
 use Rattle.vt_store.specs.Solutions.{Solves}
 use Rattle.vt_store.specs.Stores.{Cells, cell_count, ends_at}
 use Rattle.vt_store.specs.Writes.{IsOf}
+pub use Rattle.vt_store.specs.Narrowing.{HasTypes}
 use Rattle.vt_scheme.specs.declared.scheme.Scheme.{Scheme}
 use Rattle.vt_scheme.specs.declared.scheme.Copied.{Copied}
-
--- the types that a solution of a store at a decision gives to some cells and to one more
-pub record HasTypes (store : Cells) (monos : List ℕ) (root : ℕ) (decision : List Side) (types : List Plain) (type : Plain) : Type 0 where
-  pub s : ℕ → Plain
-  pub solves : Solves (cell_count store) (ends_at store decision) s
-  pub monos_are : map s monos ≡ types
-  pub root_is : s root ≡ type
 
 -- What a scheme allows at a decision: types of its monos and a type of its root that one solution of its cells gives.
 abbrev pub Allows : {N : ℕ} → Scheme N → List Side → List Plain → Plain → Type 0

@@ -1,11 +1,12 @@
 ghost use Rattle.std.specs.Prelude.{◌≡◌, ◌<◌, IfOk, OnErr};
 ghost use Rattle.std.specs.List.{All};
 ghost use Rattle.vt_store.specs.Stores.{cell_count, IsUnchanged};
+ghost use Rattle.vt_store.specs.Sharing.{IsShared};
 ghost use Rattle.vt_scheme.specs.Schemes.{AreCells, IsFrozen, IsInstanceOf};
 
 use std::alloc::{AllocError, Global};
 use vt_store::laws::solutions_of_parts;
-use vt_store::{CellId, CellList, Store};
+use vt_store::{CellId, CellList, Part, Shared, Store};
 
 /// Cells of their own, some of which, the monos, stand for cells that all copies share, and one of
 /// which, the root, stands for the type that is copied.
@@ -24,8 +25,9 @@ pub struct Copied {
     pub root: CellId,
 }
 
-/// The part of a store to which the monos and the root lead, as a scheme. Equal cells are made one, as
-/// long as that leaves fewer, so that what is copied again and again is small.
+/// The part of a store to which the monos and the root lead, as a scheme. What two sides of a choice say
+/// alike and cells that are equal are made one, as long as that leaves fewer, so that what is copied
+/// again and again is small.
 pub fn freeze<const N: usize>(
     alloc: Global,
     store: &Store<N>,
@@ -36,11 +38,12 @@ pub fn freeze<const N: usize>(
     requires root { root < cell_count store.now }
     ensures frozen { IfOk result (IsFrozen N store.now monos.now root) }
 {
-    let mut scheme = taken(alloc, store, monos, root)?;
+    let scheme = taken(alloc, store, monos, root)?;
+    let mut scheme = narrowed(alloc, scheme)?;
     'turns: loop {
         let merged = merged(alloc, &scheme)?;
         if scheme.cells.count() <= merged.cells.count() {
-            return Ok(scheme);
+            return Ok(merged);
         }
         scheme = merged;
     }
@@ -73,12 +76,48 @@ fn merged<const N: usize>(alloc: Global, scheme: &Scheme<N>) -> Result<Scheme<N>
     requires { AreCells scheme.now }
     ensures { IfOk result (IsFrozen N scheme.now.cells scheme.now.monos scheme.now.root) }
 {
-    let shared = scheme.cells.shared(alloc)?;
+    let straight = represented(alloc, scheme, scheme.cells.straightened(alloc)?)?;
+    let shared = represented(alloc, &straight, straight.cells.shared(alloc)?)?;
+    taken(alloc, &shared.cells, shared.monos.as_slice(), shared.root)
+}
+
+/// The scheme with each cell as it is where the monos and the root lead to it.
+fn narrowed<const N: usize>(alloc: Global, scheme: Scheme<N>) -> Result<Scheme<N>, AllocError>
+    requires { AreCells scheme }
+    ensures { IfOk result (IsFrozen N scheme.entry.cells scheme.entry.monos scheme.entry.root) }
+{
+    let part = Part {
+        store: scheme.cells,
+        cells: scheme.monos,
+        root: scheme.root,
+    };
+    let part = part.narrowed(alloc)?;
+    Ok(Scheme {
+        cells: part.store,
+        monos: part.cells,
+        root: part.root,
+    })
+}
+
+/// The scheme with the representatives of its cells in their place.
+fn represented<const N: usize>(
+    alloc: Global,
+    scheme: &Scheme<N>,
+    shared: Shared<N>,
+) -> Result<Scheme<N>, AllocError>
+    requires cells { AreCells scheme.now }
+    requires shared { IsShared N scheme.now.cells shared }
+    ensures { IfOk result (IsFrozen N scheme.now.cells scheme.now.monos scheme.now.root) }
+{
     let monos = scheme
         .monos
         .represented(alloc, shared.representatives.as_slice())?;
     let root = shared.representative(scheme.root);
-    taken(alloc, &shared.store, monos.as_slice(), root)
+    Ok(Scheme {
+        cells: shared.store,
+        monos,
+        root,
+    })
 }
 
 /// Copies a scheme's cells after those of a store. On an error the store's cells are as before.

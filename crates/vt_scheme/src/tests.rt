@@ -66,3 +66,29 @@ fn equal_cells_of_a_scheme_are_one(rt: HostRuntime) -> Result<(), Fail> {
     assert_eq!(rt; scheme.cells.count(), 23);
     Ok(())
 }
+
+#[test]
+fn sides_that_say_the_same_are_one(rt: HostRuntime) -> Result<(), Fail> {
+    let mut store = Store::<1>::new(rt.alloc(), Space::All);
+    let one = store.fresh()?;
+    let other = store.fresh()?;
+    let left = store.con(Head::Fun, &[one, one])?;
+    let right = store.con(Head::Fun, &[other, other])?;
+    let root = store.choice(Dim(0), left, right)?;
+    let scheme = freeze(rt.alloc(), &store, &[], root)?;
+    assert_eq!(rt; scheme.cells.count(), 2);
+    Ok(())
+}
+
+#[test]
+fn sides_that_differ_stay_apart(rt: HostRuntime) -> Result<(), Fail> {
+    let mut store = Store::<1>::new(rt.alloc(), Space::All);
+    let one = store.fresh()?;
+    let other = store.fresh()?;
+    let left = store.con(Head::Fun, &[one, one])?;
+    let right = store.con(Head::Fun, &[other, one])?;
+    let root = store.choice(Dim(0), left, right)?;
+    let scheme = freeze(rt.alloc(), &store, &[], root)?;
+    assert_eq!(rt; scheme.cells.count(), 5);
+    Ok(())
+}
