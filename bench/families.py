@@ -32,6 +32,13 @@ def chain(k):
     return head + f"x{k}" + tail + ") 1", "Int"
 
 
+def chain_of_functions(k):
+    """The same with a polymorphic function at its beginning, each by a definition."""
+    lines = ["def x1 = fun y -> y;"]
+    lines += [f"def x{i} = @D{i}{{x{i - 1}, {identity(f'x{i - 1}')}}};" for i in range(2, k + 1)]
+    return "\n".join([*lines, f"(x{k} 1, x{k} true)"]), "Int * Bool"
+
+
 def chain_by_let(k):
     """The same, with `let`."""
     lines = ["let x1 = 1 in"]
@@ -210,6 +217,7 @@ def definitions(n):
 FAMILIES = {
     "chain": (chain, [8, 16, 32, 64]),
     "chain-by-let": (chain_by_let, [8, 16, 32, 64]),
+    "chain-of-functions": (chain_of_functions, [8, 16, 32, 64]),
     "nested": (nested, [8, 16, 32, 60]),
     "parity": (parity, [4, 8, 12, 16]),
     "mutual": (mutual, [1, 2, 4, 8, 16]),
