@@ -1,4 +1,4 @@
-use Rattle.std.proofs.Common.{◌≡◌, ◌⊎◌, ℕ, ◌*◌, ◌<◌, Bool, true, false, List, [], ◌∷◌, Contains, length, map, set, get_or, refl, ap, sym, subst, ◌∙◌, inl, inr, arith, length-set}
+use Rattle.std.proofs.Common.{◌≡◌, ◌⊎◌, ℕ, ◌*◌, ◌<◌, Bool, true, false, List, Contains, length, map, set, get_or, ap, sym, subst, ◌∙◌, inl, inr, arith, length-set}
 use Rattle.std.specs.List.{All}
 use Rattle.std.proofs.lemmas.Bool.{cases_lt}
 use Rattle.std.proofs.lemmas.List.{length-map, set-get_or}
@@ -14,10 +14,12 @@ use Rattle.vt_store.specs.Solutions.{Solves}
 use Rattle.vt_store.specs.declared.diagram.Diagram.{Diagram, Open}
 use Rattle.vt_store.specs.Diagrams.{end_in, HasCells, IsDiagram}
 use Rattle.vt_store.specs.Writes.{IsOf}
-use Rattle.vt_store.specs.Stores.{Cells, end_of, ends_at, cell_count, IsStore}
+use Rattle.vt_store.specs.Stores.{Cells, ends_at, cell_count, IsStore}
 use Rattle.vt_store.specs.Sharing.{diagram_of, AreRepresented}
 use Rattle.vt_store.specs.Narrowing.{HasTypes, IsNarrowed, on_side, IsWhether, IsReached, IsOnSides, IsCut, AreOnSides, AreOpenAlone, IsPairedAt, ArePaired}
-use Rattle.vt_store.proofs.Cells.{All-head, All-tail, All-each}
+use Rattle.vt_store.proofs.Cells.{All-each}
+use Rattle.vt_store.proofs.Widening.{types-same}
+use Rattle.vt_store.proofs.Representing.{end_here}
 use Rattle.vt_store.proofs.OneSided.{IsOneSided, IsAcyclic-one_sided, carried-one_sided, brought-one_sided}
 use Rattle.vt_store.proofs.SideLemmas.{end_in-on_side, EachCell-named_on, IsOrdered-on_side, HasCells-on_side}
 use Rattle.vt_store.proofs.Slices.{slice_get-set_same}
@@ -97,9 +99,6 @@ module _ (n : ℕ) (e other cut later : ℕ → CellEnd) (name : ℕ → ℕ) (H
 
 -- ---- the diagram of a cell in the cut
 
-end_here : (store : Cells) (decision : List Side) (cell : ℕ) → cell < cell_count store → ends_at store decision cell ≡ end_in decision (diagram_of store.cells cell)
-end_here store decision cell within = ap (end_of decision) (slice_get-get_or store.cells cell Open within)
-
 -- a decision that takes a side is the one that has it
 set-taken : (decision : List Side) (dim : ℕ) (side : Side) → Takes decision dim side → set decision dim side ≡ decision
 set-taken decision dim side takes = ap (set decision dim) (sym (get_or_from_slice_get decision dim side side takes)) ∙ set-get_or decision dim side
@@ -156,14 +155,6 @@ closed_on : (whole : Cells) (decision : List Side) (dim : ℕ) (side : Side) (ke
 closed_on whole decision dim side kept last found takes reached cell has =
     subst (EachCell (Contains found)) (sym (end_here whole decision cell (All-contains (λ own. own < cell_count whole) found cell reached.within has)))
     (EachCell-named_on (Contains found) decision dim side (diagram_of whole.cells cell) takes (reached.closed cell has))
-
--- types of cells under their names
-types_named : (s t : ℕ → Plain) (name : ℕ → ℕ) (Here : ℕ → Type 0) (cells : List ℕ) → ((cell : ℕ) → Here cell → t (name cell) ≡ s cell) → All Here cells → map t (map name cells) ≡ map s cells
-types_named s t name Here [] same h = refl
-types_named s t name Here (cell ∷ cells) same h =
-    let here = same cell (All-head Here cell cells h) in
-    let rest = types_named s t name Here cells same (All-tail Here cell cells h) in
-    λ i. here i ∷ rest i
 
 -- ---- the narrowed store
 
@@ -338,7 +329,7 @@ module _ (N dim : ℕ) (whole new : Cells) (kept : List ℕ) (last : ℕ) (left 
         record {
           s = found.0;
           solves = found.1;
-          cells_are = sym (types_named found.0 has.s name (Contains at.mine) kept (λ cell own. sym (found.2 cell own)) at.cells) ∙ has.cells_are;
+          cells_are = types-same found.0 has.s name (Contains at.mine) kept (λ cell own. sym (found.2 cell own)) at.cells ∙ has.cells_are;
           root_is = found.2 last at.root ∙ has.root_is;
         }
 
@@ -350,7 +341,7 @@ module _ (N dim : ℕ) (whole new : Cells) (kept : List ℕ) (last : ℕ) (left 
         record {
           s = found.0;
           solves = subst (λ n. Solves n (ends_at new decision) found.0) (sym count_same) found.1;
-          cells_are = types_named has.s found.0 name (Contains at.mine) kept found.2 at.cells ∙ has.cells_are;
+          cells_are = sym (types-same has.s found.0 name (Contains at.mine) kept found.2 at.cells) ∙ has.cells_are;
           root_is = found.2 last at.root ∙ has.root_is;
         }
 

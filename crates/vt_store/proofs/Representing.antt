@@ -239,6 +239,10 @@ AreAlike-choice names dim own one other left right lefts rights is also dims l r
 
 -- ---- the store of such diagrams
 
+-- the end of a cell is that of its diagram
+pub end_here : (store : Cells) (decision : List Side) (cell : ℕ) → cell < cell_count store → ends_at store decision cell ≡ end_in decision (diagram_of store.cells cell)
+end_here store decision cell within = ap (end_of decision) (slice_get-get_or store.cells cell Open within)
+
 bound_end : (decision : List Side) (diagram : Diagram) → IsNowhereOpen diagram → end_in decision diagram ≡ Free → ⊥
 bound_end decision Open h free = h
 bound_end decision (Link cell) h free = cc
@@ -254,9 +258,6 @@ module _ (N : ℕ) (whole new : Cells) (names : List ℕ) (good : IsStore N whol
     (space : new.space ≡ whole.space) where
   abbrev name : ℕ → ℕ
   name cell = get_or names cell 0
-
-  end_here : (store : Cells) (decision : List Side) (cell : ℕ) → cell < cell_count store → ends_at store decision cell ≡ end_in decision (diagram_of store.cells cell)
-  end_here store decision cell within = ap (end_of decision) (slice_get-get_or store.cells cell Open within)
 
   within_whole : (cell : ℕ) → cell < cell_count whole → name cell < cell_count whole
   within_whole cell within = are.cells cell 0 (omega (arith, are.sized))

@@ -21,7 +21,7 @@ Fits-narrow t origin type Free h = tt
 Fits-narrow t origin type (Same cell) h = h
 Fits-narrow t origin type (Made head kids) h = h ∙ ap (λ types. Con head (plain_kids types)) (types-mapped t origin kids)
 
-types-same : (s t : ℕ → Plain) (origin : ℕ → ℕ) (P : ℕ → Type 0) (kids : List ℕ) → ((cell : ℕ) → P cell → t (origin cell) ≡ s cell) → All P kids → map s kids ≡ map t (map origin kids)
+pub types-same : (s t : ℕ → Plain) (origin : ℕ → ℕ) (P : ℕ → Type 0) (kids : List ℕ) → ((cell : ℕ) → P cell → t (origin cell) ≡ s cell) → All P kids → map s kids ≡ map t (map origin kids)
 types-same s t origin P [] same h = refl
 types-same s t origin P (kid ∷ kids) same h =
     let here = sym (same kid (All-head P kid kids h)) in
