@@ -47,11 +47,11 @@ pub struct Shared<const N: usize> {
 }
 
 impl<const N: usize> Part<N> {
-    /// A part whose cells and root have the same types at every decision, in which each cell is as it is
-    /// where they lead to it. On either side of a dimension a cell may be bound that they lead to on the
-    /// other one alone, and it may be open on its own side and not there; such a cell is bound alike on
-    /// both, and open cells of the two sides are made one, in pairs. Sides that say the same are then
-    /// equal, and `Store::shared` can join them. This takes time by the part for each dimension.
+    /// A part whose cells and root have the same types at every decision, and which may be smaller once
+    /// equal cells are made one. A cell to which they lead on one side of a dimension alone is taken as it
+    /// is on that side, whatever side a decision takes, and the open cells of either side alone are made
+    /// one, in pairs: what two sides say alike is then equal, and `Store::shared` finds it. It takes time
+    /// by the part for each dimension on which a cell branches.
     pub fn narrowed(self, alloc: Global) -> Result<Part<N>, AllocError>
         requires { AreIn self }
         ensures { IfOk result (IsNarrowed N self.entry.store self.entry.cells self.entry.root) }
