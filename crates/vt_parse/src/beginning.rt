@@ -96,17 +96,30 @@ pub fn begin(
 {
     match start {
         Start::Leaf(leaf) => {
-            let operand = leaf_at(alloc, text, leaf, at)?;
-            Ok(Some(reader.placed(Place::Read(operand))))
+            match leaf_at(alloc, text, leaf, at) {
+                Ok(operand) => Ok(Some(reader.placed(Place::Read(operand)))),
+                Err(fault) => {
+                    drop(reader);
+                    Err(fault)
+                }
+            }
         }
         Start::Opens(opening) => {
-            let frame = opened(alloc, text, opening, at)?;
-            Ok(Some(reader.opened(frame, opened_place(opening))?))
+            match opened(alloc, text, opening, at) {
+                Ok(frame) => Ok(Some(reader.opened(frame, opened_place(opening))?)),
+                Err(fault) => {
+                    drop(reader);
+                    Err(fault)
+                }
+            }
         }
         Start::Form(statement) => state(statement, at, reader),
         Start::Definition => define(reader),
         Start::ListEnd => Ok(end_empty(at, reader)),
-        Start::Nothing => Ok(None),
+        Start::Nothing => {
+            drop(reader);
+            Ok(None)
+        }
     }
 }
 
@@ -117,6 +130,7 @@ fn state(statement: Statement, at: Span, reader: Reader) -> Result<Option<Reader
     if reader.stack.may_state() {
         Ok(Some(reader.opened(stated(statement, at), Place::Wanted)?))
     } else {
+        drop(reader);
         Ok(None)
     }
 }
@@ -129,6 +143,7 @@ fn define(reader: Reader) -> Result<Option<Reader>, AllocError>
         let frame = Frame::Naming(Naming::DefName { recursive: false });
         Ok(Some(reader.opened(frame, Place::Wanted)?))
     } else {
+        drop(reader);
         Ok(None)
     }
 }
@@ -175,7 +190,11 @@ pub fn name(
     match name_start_of(kind) {
         NameStart::Name => name_here(alloc, text, naming, at, reader),
         NameStart::Recursive => name_recursive(made_recursive(naming), reader),
-        NameStart::Nothing => Ok(None),
+        NameStart::Nothing => {
+            drop(naming);
+            drop(reader);
+            Ok(None)
+        }
     }
 }
 
@@ -190,9 +209,17 @@ fn name_here(
     ensures { IfOk result (λ next. next ≡ Some (moved reader (named naming (binder_at text.now at) ∷ reader.stack) (Place.Awaits (named_mark naming)))) }
 {
     let mark = named_mark(&naming);
-    let binder = binder_at(alloc, text, at)?;
-    let reader = reader.opened(named(naming, binder), Place::Awaits(mark))?;
-    Ok(Some(reader))
+    match binder_at(alloc, text, at) {
+        Ok(binder) => {
+            let reader = reader.opened(named(naming, binder), Place::Awaits(mark))?;
+            Ok(Some(reader))
+        }
+        Err(fault) => {
+            drop(naming);
+            drop(reader);
+            Err(fault)
+        }
+    }
 }
 
 fn name_recursive(naming: Option<Naming>, reader: Reader) -> Result<Option<Reader>, AllocError>
@@ -200,6 +227,9 @@ fn name_recursive(naming: Option<Naming>, reader: Reader) -> Result<Option<Reade
 {
     match naming {
         Some(naming) => Ok(Some(reader.opened(Frame::Naming(naming), Place::Wanted)?)),
-        None => Ok(None),
+        None => {
+            drop(reader);
+            Ok(None)
+        }
     }
 }

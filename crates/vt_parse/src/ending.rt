@@ -37,11 +37,20 @@ pub fn end_at(
     ensures { IfOk result (λ next. next ≡ end_at mark at reader (reduce 0 reader.stack operand)) }
 {
     match mark {
-        None => Ok(None),
+        None => {
+            drop(reader);
+            drop(operand);
+            Ok(None)
+        }
         Some(mark) => {
             let mut reader = reader;
-            let last = reduce(alloc, 0, &mut reader.stack, operand)?;
-            end_part(alloc, mark, at, reader, last)
+            match reduce(alloc, 0, &mut reader.stack, operand) {
+                Ok(last) => end_part(alloc, mark, at, reader, last),
+                Err(fault) => {
+                    drop(reader);
+                    Err(fault)
+                }
+            }
         }
     }
 }
@@ -58,7 +67,11 @@ fn end_part(
 {
     let mut reader = reader;
     match reader.stack.pop() {
-        None => Ok(None),
+        None => {
+            drop(reader);
+            drop(operand);
+            Ok(None)
+        }
         Some(frame) => end_part_in(alloc, mark, at, frame, reader, operand),
     }
 }
@@ -106,6 +119,9 @@ fn pass(
         let next = passed_place(&middle);
         Ok(Some(reader.opened(passed(middle, operand), next)?))
     } else {
+        drop(middle);
+        drop(reader);
+        drop(operand);
         Ok(None)
     }
 }
@@ -126,6 +142,9 @@ fn enclose(
         let whole = enclosed(alloc, right, operand, at)?;
         Ok(Some(reader.placed(Place::Read(whole))))
     } else {
+        drop(right);
+        drop(reader);
+        drop(operand);
         Ok(None)
     }
 }
@@ -151,6 +170,8 @@ fn paren_mark(
         });
         Ok(Some(reader.opened(frame, Place::Wanted)?))
     } else {
+        drop(reader);
+        drop(operand);
         Ok(None)
     }
 }
@@ -171,6 +192,8 @@ fn list_mark(
     } else if same_mark(mark, Mark::SquareClose) {
         end_list(alloc, at, reader, operand)
     } else {
+        drop(reader);
+        drop(operand);
         Ok(None)
     }
 }
@@ -187,7 +210,13 @@ fn end_list(
 {
     let mut reader = reader;
     let mut deepest = last.depth;
-    let mut items = Exprs::more(alloc, last.expr, Exprs::Nil)?;
+    let mut items = match Exprs::more(alloc, last.expr, Exprs::Nil) {
+        Ok(items) => items,
+        Err(fault) => {
+            drop(reader);
+            return Err(fault);
+        }
+    };
     while let Some(frame) = reader.stack.pop() {
         match list_frame(frame) {
             ListFrame::Square(from) => {
@@ -196,11 +225,23 @@ fn end_list(
             }
             ListFrame::Element(before) => {
                 deepest = before.depth.max(deepest + 1);
-                items = Exprs::more(alloc, before.expr, items)?;
+                items = match Exprs::more(alloc, before.expr, items) {
+                    Ok(items) => items,
+                    Err(fault) => {
+                        drop(reader);
+                        return Err(fault);
+                    }
+                };
             }
-            ListFrame::Neither => return Ok(None),
+            ListFrame::Neither => {
+                drop(items);
+                drop(reader);
+                return Ok(None);
+            }
         }
     }
+    drop(items);
+    drop(reader);
     Ok(None)
 }
 
@@ -250,24 +291,37 @@ fn end_body(
             defs,
             deepest,
             stack,
-            ..
+            next,
         } = reader;
+        drop(next);
         let mut defs = defs;
         let deepest = deepest.max(body.depth);
-        defs.push(Def {
+        let def = Def {
             name: name.name,
             name_span: name.span,
             recursive,
             body: body.expr,
-        })?;
-        let next = Place::Wanted;
-        Ok(Some(Reader {
-            defs,
-            deepest,
-            stack,
-            next,
-        }))
+        };
+        match defs.push(def) {
+            Ok(()) => {
+                let next = Place::Wanted;
+                Ok(Some(Reader {
+                    defs,
+                    deepest,
+                    stack,
+                    next,
+                }))
+            }
+            Err(fault) => {
+                drop(defs);
+                drop(stack);
+                Err(fault)
+            }
+        }
     } else {
+        drop(name);
+        drop(reader);
+        drop(body);
         Ok(None)
     }
 }

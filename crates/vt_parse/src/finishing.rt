@@ -25,8 +25,16 @@ pub fn finish(alloc: Global, reader: Reader) -> Result<Option<Program>, AllocErr
         ..
     } = reader;
     match next {
-        Place::Wanted => Ok(None),
-        Place::Awaits(_) => Ok(None),
+        Place::Wanted => {
+            drop(defs);
+            drop(stack);
+            Ok(None)
+        }
+        Place::Awaits(_) => {
+            drop(defs);
+            drop(stack);
+            Ok(None)
+        }
         Place::Read(operand) => finish_with(alloc, defs, stack, operand),
     }
 }
@@ -41,13 +49,24 @@ fn finish_with(
     ensures { IfOk result (IsFinishedWith defs (reduce 0 stack operand)) }
 {
     let mut stack = stack;
-    let last = reduce(alloc, 0, &mut stack, operand)?;
+    let last = match reduce(alloc, 0, &mut stack, operand) {
+        Ok(last) => last,
+        Err(fault) => {
+            drop(defs);
+            drop(stack);
+            return Err(fault);
+        }
+    };
     if stack.is_empty() {
+        drop(stack);
         Ok(Some(Program {
             defs: defs.into_defs(),
             main: last.expr,
         }))
     } else {
+        drop(defs);
+        drop(stack);
+        drop(last);
         Ok(None)
     }
 }

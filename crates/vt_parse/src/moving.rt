@@ -153,8 +153,9 @@ pub fn made_recursive(naming: Naming) -> Option<Naming>
                 Some(Naming::DefName { recursive: true })
             }
         }
-        Naming::FunName { .. } => None,
-        Naming::FirstName { .. } => None,
-        Naming::RestName { .. } => None,
+        other => {
+            drop(other);
+            None
+        }
     }
 }

@@ -71,6 +71,7 @@ fn outcome_of(next: Option<Reader>) -> Outcome
             if is_admitted(&next) {
                 Outcome::To(next)
             } else {
+                drop(next);
                 Outcome::TooDeep
             }
         }

@@ -38,8 +38,9 @@ impl Reader {
             defs,
             deepest,
             stack,
-            ..
+            next: before,
         } = self;
+        drop(before);
         Reader {
             defs,
             deepest,
@@ -53,7 +54,12 @@ impl Reader {
         ensures { IfOk result (λ reader. reader ≡ moved self (frame ∷ self.stack) next) }
     {
         let mut reader = self.placed(next);
-        reader.stack.push(frame)?;
-        Ok(reader)
+        match reader.stack.push(frame) {
+            Ok(()) => Ok(reader),
+            Err(fault) => {
+                drop(reader);
+                Err(fault)
+            }
+        }
     }
 }

@@ -59,11 +59,15 @@ fn await_mark(mark: Mark, found: Option<Mark>, reader: Reader) -> Option<Reader>
     ensures { result ≡ await mark found reader }
 {
     match found {
-        None => None,
+        None => {
+            drop(reader);
+            None
+        }
         Some(found) => {
             if same_mark(mark, found) {
                 Some(reader.placed(place_after(mark)))
             } else {
+                drop(reader);
                 None
             }
         }
@@ -152,10 +156,19 @@ fn join(
     ensures { IfOk result (λ next. next ≡ join op at reader operand) }
 {
     let mut reader = reader;
-    let left = reduce(alloc, left_level(op), &mut reader.stack, operand)?;
-    if reader.stack.may_join(op) {
-        Ok(Some(reader.opened(Frame::Joint(op, at, left), Place::Wanted)?))
-    } else {
-        Ok(None)
+    match reduce(alloc, left_level(op), &mut reader.stack, operand) {
+        Ok(left) => {
+            if reader.stack.may_join(op) {
+                Ok(Some(reader.opened(Frame::Joint(op, at, left), Place::Wanted)?))
+            } else {
+                drop(reader);
+                drop(left);
+                Ok(None)
+            }
+        }
+        Err(fault) => {
+            drop(reader);
+            Err(fault)
+        }
     }
 }

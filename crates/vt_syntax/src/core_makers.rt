@@ -35,8 +35,10 @@ impl Core {
     ) -> Result<Core, AllocError>
         ensures { IfOk result (λ c. c ≡ core node span (app_form function argument)) }
     {
-        let function = Boxed::new(alloc, function)?;
-        let argument = Boxed::new(alloc, argument)?;
+        let function = Boxed::new(alloc, function);
+        let argument = Boxed::new(alloc, argument);
+        let function = function?;
+        let argument = argument?;
         Ok(Core {
             node,
             span,
@@ -53,8 +55,10 @@ impl Core {
     ) -> Result<Core, AllocError>
         ensures { IfOk result (λ c. c ≡ core node span (let_form bound body)) }
     {
-        let bound = Boxed::new(alloc, bound)?;
-        let body = Boxed::new(alloc, body)?;
+        let bound = Boxed::new(alloc, bound);
+        let body = Boxed::new(alloc, body);
+        let bound = bound?;
+        let body = body?;
         Ok(Core {
             node,
             span,
@@ -74,8 +78,10 @@ impl Core {
     ) -> Result<Core, AllocError>
         ensures { IfOk result (λ c. c ≡ core node span (let_rec_form name name_span bound body)) }
     {
-        let bound = Boxed::new(alloc, bound)?;
-        let body = Boxed::new(alloc, body)?;
+        let bound = Boxed::new(alloc, bound);
+        let body = Boxed::new(alloc, body);
+        let bound = bound?;
+        let body = body?;
         Ok(Core {
             node,
             span,
@@ -93,8 +99,10 @@ impl Core {
     ) -> Result<Core, AllocError>
         ensures { IfOk result (λ c. c ≡ core node span (choice_form dim left right)) }
     {
-        let left = Boxed::new(alloc, left)?;
-        let right = Boxed::new(alloc, right)?;
+        let left = Boxed::new(alloc, left);
+        let right = Boxed::new(alloc, right);
+        let left = left?;
+        let right = right?;
         Ok(Core {
             node,
             span,

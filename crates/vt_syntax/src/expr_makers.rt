@@ -35,8 +35,10 @@ impl Expr {
     ) -> Result<Expr, AllocError>
         ensures { IfOk result (λ e. e ≡ expr span (let_form recursive name name_span bound body)) }
     {
-        let bound = Boxed::new(alloc, bound)?;
-        let body = Boxed::new(alloc, body)?;
+        let bound = Boxed::new(alloc, bound);
+        let body = Boxed::new(alloc, body);
+        let bound = bound?;
+        let body = body?;
         Ok(Expr {
             span,
             form: ExprForm::Let {
@@ -58,9 +60,12 @@ impl Expr {
     ) -> Result<Expr, AllocError>
         ensures { IfOk result (λ e. e ≡ expr span (if_form condition then otherwise)) }
     {
-        let condition = Boxed::new(alloc, condition)?;
-        let then = Boxed::new(alloc, then)?;
-        let otherwise = Boxed::new(alloc, otherwise)?;
+        let condition = Boxed::new(alloc, condition);
+        let then = Boxed::new(alloc, then);
+        let otherwise = Boxed::new(alloc, otherwise);
+        let condition = condition?;
+        let then = then?;
+        let otherwise = otherwise?;
         Ok(Expr {
             span,
             form: ExprForm::If(condition, then, otherwise),
@@ -81,9 +86,12 @@ impl Expr {
     ) -> Result<Expr, AllocError>
         ensures { IfOk result (λ e. e ≡ expr span (match_form list empty first first_span rest rest_span cell)) }
     {
-        let list = Boxed::new(alloc, list)?;
-        let empty = Boxed::new(alloc, empty)?;
-        let cell = Boxed::new(alloc, cell)?;
+        let list = Boxed::new(alloc, list);
+        let empty = Boxed::new(alloc, empty);
+        let cell = Boxed::new(alloc, cell);
+        let list = list?;
+        let empty = empty?;
+        let cell = cell?;
         Ok(Expr {
             span,
             form: ExprForm::Match {
@@ -108,8 +116,10 @@ impl Expr {
     ) -> Result<Expr, AllocError>
         ensures { IfOk result (λ e. e ≡ expr span (op_form op op_span left right)) }
     {
-        let left = Boxed::new(alloc, left)?;
-        let right = Boxed::new(alloc, right)?;
+        let left = Boxed::new(alloc, left);
+        let right = Boxed::new(alloc, right);
+        let left = left?;
+        let right = right?;
         Ok(Expr {
             span,
             form: ExprForm::Op(op, op_span, left, right),
@@ -124,8 +134,10 @@ impl Expr {
     ) -> Result<Expr, AllocError>
         ensures { IfOk result (λ e. e ≡ expr span (apply_form function argument)) }
     {
-        let function = Boxed::new(alloc, function)?;
-        let argument = Boxed::new(alloc, argument)?;
+        let function = Boxed::new(alloc, function);
+        let argument = Boxed::new(alloc, argument);
+        let function = function?;
+        let argument = argument?;
         Ok(Expr {
             span,
             form: ExprForm::Apply(function, argument),
@@ -135,8 +147,10 @@ impl Expr {
     pub fn pair(alloc: Global, span: Span, left: Expr, right: Expr) -> Result<Expr, AllocError>
         ensures { IfOk result (λ e. e ≡ expr span (pair_form left right)) }
     {
-        let left = Boxed::new(alloc, left)?;
-        let right = Boxed::new(alloc, right)?;
+        let left = Boxed::new(alloc, left);
+        let right = Boxed::new(alloc, right);
+        let left = left?;
+        let right = right?;
         Ok(Expr {
             span,
             form: ExprForm::Pair(left, right),
@@ -154,8 +168,10 @@ impl Expr {
     ) -> Result<Expr, AllocError>
         ensures { IfOk result (λ e. e ≡ expr span (choice_form dim dim_span left right)) }
     {
-        let left = Boxed::new(alloc, left)?;
-        let right = Boxed::new(alloc, right)?;
+        let left = Boxed::new(alloc, left);
+        let right = Boxed::new(alloc, right);
+        let left = left?;
+        let right = right?;
         Ok(Expr {
             span,
             form: ExprForm::Choice(dim, dim_span, left, right),
@@ -168,8 +184,10 @@ impl Exprs {
     pub fn more(alloc: Global, first: Expr, rest: Exprs) -> Result<Exprs, AllocError>
         ensures { IfOk result (λ es. es ≡ exprs first rest) }
     {
-        let first = Boxed::new(alloc, first)?;
-        let rest = Boxed::new(alloc, rest)?;
+        let first = Boxed::new(alloc, first);
+        let rest = Boxed::new(alloc, rest);
+        let first = first?;
+        let rest = rest?;
         Ok(Exprs::More(first, rest))
     }
 }

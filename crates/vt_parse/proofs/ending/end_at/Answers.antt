@@ -7,10 +7,10 @@ reduce-requires c = c.requires
 
 pub end_part-requires : goal.end_part-requires
 end_part-requires c =
-    reduced-admitted 0 c.args.reader.stack c.reduce.new.stack c.args.operand c.in_ok-last-in-Some.last (reduce-depth 0 c.args.reader.stack c.args.operand) c.in_ok-last-in-Some.ensures c.requires
+    reduced-admitted 0 c.args.reader.stack c.reduce.new.stack c.args.operand c.in-Ok.last (reduce-depth 0 c.args.reader.stack c.args.operand) c.in-Ok.ensures c.requires
 
-pub returns-in_ok-last-in-Some : goal.returns-in_ok-last-in-Some
-returns-in_ok-last-in-Some c =
+pub returns-in-Ok : goal.returns-in-Ok
+returns-in-Ok c =
     answers-as c.end_part.result _ _
-    (end-reduced c.args.mark c.in-Some.mark c.args.at c.args.reader c.reduce.new.stack c.args.operand c.in_ok-last-in-Some.last c.in-Some.is c.in_ok-last-in-Some.ensures)
+    (end-reduced c.args.mark c.in-Some.mark c.args.at c.args.reader c.reduce.new.stack c.args.operand c.in-Ok.last c.in-Some.is c.in-Ok.ensures)
     c.end_part.ensures

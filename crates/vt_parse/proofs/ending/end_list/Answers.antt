@@ -6,7 +6,7 @@ use Rattle.vt_parse.proofs.ending.end_list.Goals as goal
 
 pub loop-frame-init : goal.loop-frame-init
 loop-frame-init c = record {
-  same = ap (λ es. end_list c.args.at es (suc c.args.last.depth) c.args.reader c.args.reader.stack) c.in_ok-items.ensures;
+  same = ap (λ es. end_list c.args.at es (suc c.args.last.depth) c.args.reader c.args.reader.stack) c.in-Ok.ensures;
   admitted = c.requires;
 }
 
@@ -15,8 +15,8 @@ loop-frame-preserved c =
     let reader = c.loop-frame.reader in
     record {
       same =
-          list-longer c.args.at c.loop-frame.items c.loop-frame.deepest reader c.pop.new.self c.in-Some.frame c.in-Some.ensures c.in-Element.before c.in_ok-items-in-Element.items c.max-deepest.result
-          c.in-Element.ensures c.in_ok-items-in-Element.ensures c.max-deepest.ensures
+          list-longer c.args.at c.loop-frame.items c.loop-frame.deepest reader c.pop.new.self c.in-Some.frame c.in-Some.ensures c.in-Element.before c.in-Ok-more.items c.max-deepest.result
+          c.in-Element.ensures c.in-Ok-more.ensures c.max-deepest.ensures
           ∙ c.loop-frame.invariant.same;
       admitted =
           list-deeper c.args.at c.loop-frame.items c.loop-frame.deepest reader c.pop.new.self c.in-Some.frame c.in-Some.ensures c.in-Element.before c.max-deepest.result
