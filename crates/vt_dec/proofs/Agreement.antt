@@ -70,11 +70,6 @@ slice_get-least_right (None ∷ sides) zero right = cc
 slice_get-least_right (Some own ∷ sides) zero right = cc
 slice_get-least_right (own ∷ sides) (suc dim) right = slice_get-least_right sides dim right
 
-pub slice_get-set_same : (decision : List Side) (dim : ℕ) (old side : Side) → slice_get decision dim ≡ Some old → slice_get (set decision dim side) dim ≡ Some side
-slice_get-set_same [] dim old side is = cc
-slice_get-set_same (x ∷ decision) zero old side is = refl
-slice_get-set_same (x ∷ decision) (suc dim) old side is = slice_get-set_same decision dim old side is
-
 -- ---- one dimension more
 
 pub Agrees-set : (sides : List (Option Side)) (decision : List Side) (dim : ℕ) (side : Side) → Agrees sides decision → slice_get sides dim ≡ Some None → Agrees sides (set decision dim side)

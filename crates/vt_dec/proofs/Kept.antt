@@ -11,6 +11,7 @@ use Rattle.vt_dec.specs.Decisions.{rights, taken, Agrees}
 use Rattle.vt_dec.specs.Sides.{is_right, side_of}
 use Rattle.vt_dec.specs.Contexts.{own, kept, least_of, side_or_left, budget_of, AreParts, IsHeld}
 use Rattle.vt_dec.specs.Inverse.{is_right-side_of}
+use Rattle.vt_dec.proofs.Slices.{slice_get-set_other}
 use Rattle.vt_dec.proofs.Sets.{map-replicate}
 use Rattle.vt_dec.proofs.Agreement.{rights-least, slice_get-least_right}
 
@@ -72,13 +73,6 @@ right_of_bit (side ∷ least) (suc dim) bit = right_of_bit least dim bit
 pub rights_taken : (n : ℕ) (decided : List Bool) (least : List Side) → AreParts n decided least → rights least ≡ taken (kept decided least)
 rights_taken n decided least parts = ap rights (sym parts.only) ∙ rights-least (kept decided least)
 
-slice_get-set_other : (bits : List Bool) (at dim : ℕ) → dim ≢ at → slice_get (set bits at true) dim ≡ slice_get bits dim
-slice_get-set_other [] at dim other = refl
-slice_get-set_other (x ∷ bits) zero zero other = absurd (other refl)
-slice_get-set_other (x ∷ bits) zero (suc dim) other = refl
-slice_get-set_other (x ∷ bits) (suc at) zero other = refl
-slice_get-set_other (x ∷ bits) (suc at) (suc dim) other = slice_get-set_other bits at dim (λ same. other (ap suc same))
-
 -- a dimension that is not decided
 pub slice_get-kept_free : (n : ℕ) (decided : List Bool) (least : List Side) (dim : ℕ) → AreParts n decided least → dim < n → slice_get decided dim ≡ Some false
     → slice_get (kept decided least) dim ≡ Some None
@@ -90,7 +84,7 @@ low-set : (decided : List Bool) (at : ℕ) → at < 2 ^ 32 → ((dim : ℕ) → 
 low-set decided at near low dim member =
     elim (cases_eq dim at) [
       | inl here ↦ omega arith
-      | inr other ↦ low dim (sym (slice_get-set_other decided at dim other) ∙ member)
+      | inr other ↦ low dim (sym (slice_get-set_other decided at dim true other) ∙ member)
     ]
 
 pub AreParts-set : (n : ℕ) (decided : List Bool) (least : List Side) (dim : ℕ) (side : Side) → AreParts n decided least → dim < 2 ^ 32

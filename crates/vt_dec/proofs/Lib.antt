@@ -1,8 +1,10 @@
 pub mod WordBits
 pub mod NextBit
+pub mod Slices
 pub mod Sets
 pub mod Agreement
 pub mod Kept
 pub mod Regions
+pub mod Admitting
 pub mod Narrowing
 pub mod Description

@@ -1,5 +1,5 @@
 use Rattle.std.proofs.Common.{◌≡◌, ℕ, ◌<◌, ◌≤◌, ◌↔◌, ◌≢◌, List, Option, Some, None, length, set, slice_get, refl, ap, sym, ◌∙◌, arith}
-use Rattle.std.proofs.lemmas.Option.{slice_get-get_or}
+use Rattle.std.proofs.lemmas.Option.{slice_get-get_or, slice_get_within}
 use lib.Lanes.{zip2}
 use Rattle.vt_dec.specs.declared.side.Side.{Side}
 use Rattle.vt_dec.specs.declared.side.Side.TheVariants.{Left, Right}
@@ -8,7 +8,8 @@ use Rattle.vt_dec.specs.declared.side.Space.TheVariants.{All, AtMost}
 use Rattle.vt_dec.specs.Decisions.{rights, taken, IsIn, Region, Agrees, Admits, CanTake, MustTake, IsSideOf, Narrows, Meet, IsLeast, IsKeptIn, IsKept}
 use Rattle.vt_dec.specs.Sides.{join_side}
 use Rattle.vt_dec.specs.Contexts.{least_of, IsSpentIn}
-use Rattle.vt_dec.proofs.Agreement.{Agrees-decided, Agrees-least, rights-least, Agrees-is_least, slice_get-least_open, slice_get-least_right, slice_get-set_same, Agrees-set, rights-set, Agrees-narrowed, Agrees-narrow, join-comm, Agrees-join, rights-join}
+use Rattle.vt_dec.proofs.Slices.{slice_get-set_same}
+use Rattle.vt_dec.proofs.Agreement.{Agrees-decided, Agrees-least, rights-least, Agrees-is_least, slice_get-least_open, slice_get-least_right, Agrees-set, rights-set, Agrees-narrowed, Agrees-narrow, join-comm, Agrees-join, rights-join}
 
 -- What a region admits.
 
@@ -58,7 +59,7 @@ CanTake-right region dim kept left free =
     let least = least_of region.sides in (
       set least dim Right,
       record { agrees = Agrees-set region.sides least dim Right (Agrees-least region.sides) free; in_space = IsIn-set region.space region.sides dim kept left free },
-      slice_get-set_same least dim Left Right (slice_get-least_open region.sides dim free),
+      slice_get-set_same least dim Right (slice_get_within least dim Left (slice_get-least_open region.sides dim free)),
     )
 
 pub IsSideOf-none : (region : Region) (dim : ℕ) → IsKept region → (IsSpentIn region.space region.sides → ⊥) → slice_get region.sides dim ≡ Some None → IsSideOf region dim None

@@ -8,15 +8,15 @@ use std::marker::Model;
 
 /// A part of a space: its decisions that agree with what is decided. It always has one.
 ///
-/// Copying it is a plain copy. `with`, `side` and `next_decided` look at one word or at each word
+/// Copying it is a plain copy. `with`, `half`, `side` and `next_decided` look at one word or at each word
 /// once, whatever the number of dimensions.
 #[derive(Clone, Copy, Debug)]
 pub struct Context<const N: usize> {
-    /// The dimensions that the context decides itself.
+    // The dimensions that the context decides itself.
     decided: DimSet<N>,
-    /// The least decision: the sides that are decided, and else `Left`.
+    // The least decision: the sides that are decided, and else `Left`.
     least: Decision<N>,
-    /// How many more may be `Right`, where the space has a budget.
+    // How many more may be `Right`, where the space has a budget.
     left: u32,
     space: Space,
 }
@@ -86,7 +86,7 @@ impl<const N: usize> Context<N> {
         }
     }
 
-    /// The budget is used up, so that one decision is left.
+    // The budget is used up, so that one decision is left.
     fn is_spent(&self) -> bool
         ensures { IsTrue result ↔ IsSpentIn self.now.space self.now.sides }
     {
@@ -103,14 +103,15 @@ impl<const N: usize> Context<N> {
         ensures kept { IfSome result IsKept }
     {
         match self.side(dim) {
-            None => Some(self.narrowed(dim, side)),
+            None => Some(self.half(dim, side)),
             Some(own) if own == side => Some(*self),
             Some(_) => None,
         }
     }
 
-    /// `with` at a dimension of which admitted decisions take either side.
-    fn narrowed(&self, dim: Dim, side: Side) -> Context<N>
+    /// Half of the decisions, that with this side: `with` at a dimension of which admitted decisions
+    /// take either side.
+    pub fn half(&self, dim: Dim, side: Side) -> Context<N>
         requires within { dim < 64 * N }
         requires either { IsSideOf self.now dim None }
         ensures narrows { Narrows self.now dim side result }
@@ -145,6 +146,7 @@ impl<const N: usize> Context<N> {
         }
     }
 
+    /// The decision is one of the context's.
     pub fn admits(&self, decision: &Decision<N>) -> bool
         ensures admits { IsTrue result ↔ Admits self.now decision.now }
         ensures kept { IsKept self.now }

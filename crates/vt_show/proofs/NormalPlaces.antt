@@ -4,7 +4,7 @@ use Rattle.std.specs.Str.{bytes_eq}
 use Rattle.std.proofs.lemmas.Option.{none-some, same_Some, slice_get_within, slice_get_cases}
 use Rattle.vt_dec.specs.declared.side.Side.{Side}
 use Rattle.vt_dec.specs.declared.side.Side.TheVariants.{Left, Right}
-use Rattle.vt_dec.proofs.Agreement.{slice_get-set_same}
+use Rattle.vt_dec.proofs.Slices.{slice_get-set_same}
 use Rattle.vt_type.specs.declared.head.Head.{Head}
 use Rattle.vt_type.specs.declared.plain.Plain.{Plain}
 use Rattle.vt_type.specs.declared.plain.Plain as plain
@@ -188,7 +188,7 @@ module _ (name : List ℕ) where
               (let read = first_at_decision left at map (Taking set dim Left) (Taking-long set dim Left long) h.1 (depends.0, (depends.2, depends.1)) path f in
               (read.0, read.1.0, read.2, read.3, ap found (choice_places read.0 at dim left right Left read.1.1) ∙ read.4))
           | inr f ↦
-              (let read = first_at_decision right at map (Taking set dim Right) (Taking-long set dim Right long) h.2 (flipped, (depends.3, slice_get-set_same depends.0 dim Left Right depends.1)) path f.1 in
+              (let read = first_at_decision right at map (Taking set dim Right) (Taking-long set dim Right long) h.2 (flipped, (depends.3, slice_get-set_same depends.0 dim Right (slice_get_within depends.0 dim Left depends.1))) path f.1 in
               (read.0, read.1.0, read.2, read.3, ap found (choice_places read.0 at dim left right Right read.1.1) ∙ read.4))
         ]
     first_at_decision Err at map set long h some path e = absurd (none-some path e)
@@ -241,7 +241,7 @@ mutual
         omega (arith, within, long depends.0 depends.2),
         normal-well_formed left map (Taking set dim Left) (Taking-long set dim Left long) (λ decision s. well decision s.0) (depends.0, (depends.2, depends.1)) h.1,
         normal-well_formed right map (Taking set dim Right) (Taking-long set dim Right long) (λ decision s. well decision s.0)
-            (slice_set depends.0 dim Right, (depends.3, slice_get-set_same depends.0 dim Left Right depends.1)) h.2,
+            (slice_set depends.0 dim Right, (depends.3, slice_get-set_same depends.0 dim Right (slice_get_within depends.0 dim Left depends.1))) h.2,
       )
   normal-well_formed Err map set long well some h = tt
 

@@ -1,6 +1,6 @@
 use Rattle.vt_dec.proofs.Kept.{rights_of}
 use Rattle.vt_dec.proofs.Narrowing.{narrows_all, narrows_rights, some_left, held_all, held_rights, held_below}
-use Rattle.vt_dec.proofs.context.Context.narrowed.Goals as goal
+use Rattle.vt_dec.proofs.context.Context.half.Goals as goal
 
 pub invariant_of-result : goal.invariant_of-result
 invariant_of-result g c =
