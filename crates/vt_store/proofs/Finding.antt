@@ -58,9 +58,6 @@ IsAdded-key found cell = by (list_any (nat_eq cell) found) (IsWhether-any found 
 
 -- ---- more cells are found
 
-pub IsLater-same : (found : List ℕ) → IsLater found found
-IsLater-same found = record { longer = omega arith; kept = λ place within. refl }
-
 pub IsLater-both : (old mid new : List ℕ) → IsLater old mid → IsLater mid new → IsLater old new
 IsLater-both old mid new first second = record {
   longer = omega (arith, first.longer, second.longer);
@@ -84,9 +81,6 @@ mapped-kept old new (choice dim left right) later h =
     let r = mapped-kept old new right later h.1 in
     λ i. choice dim (l i) (r i)
 
-pub AreMoved-none : (old : List ℕ) → AreMoved old old [] []
-AreMoved-none old = record { later = IsLater-same old; same = refl; placed = All-nil (λ place. place < length old); within = λ count cells h. h }
-
 pub AreMoved-one : (old mid new cells places : List ℕ) (cell place : ℕ) → AreMoved old mid cells places → IsFound mid new cell place → AreMoved old new (cells ++ cell ∷ []) (places ++ place ∷ [])
 AreMoved-one old mid new cells places cell place before found = record {
   later = IsLater-both old mid new before.later found.later;
@@ -102,20 +96,6 @@ AreMoved-one old mid new cells places cell place before found = record {
 }
 
 -- ---- a diagram is moved
-
-pub IsMoved-open : (count : ℕ) (old : List ℕ) → IsMoved count old old Open Open
-IsMoved-open count old = record { later = IsLater-same old; same = refl; placed = tt; within = λ h. h }
-
-pub IsMoved-link : (count : ℕ) (old new : List ℕ) (cell place : ℕ) → cell < count → IsFound old new cell place → IsMoved count old new (Link cell) (Link place)
-IsMoved-link count old new cell place below found = record { later = found.later; same = ap Link found.same; placed = found.placed; within = found.within count below }
-
-pub IsMoved-con : (count : ℕ) (old new : List ℕ) (head : Head) (kids places : List ℕ) → HasCells count (Con head kids) → AreMoved old new kids places → IsMoved count old new (Con head kids) (Con head places)
-IsMoved-con count old new head kids places cells moved = record {
-  later = moved.later;
-  same = ap (Con head) moved.same;
-  placed = (sym (length-map places (λ place. get_or new place 0)) ∙ ap length moved.same ∙ cells.0, moved.placed);
-  within = moved.within count cells.1;
-}
 
 pub IsMoved-choice : (count : ℕ) (old mid new : List ℕ) (dim : ℕ) (diagram left right lefts rights made : Diagram)
     → diagram ≡ Choice dim left right → made ≡ choice dim lefts rights → HasCells count diagram
@@ -135,14 +115,6 @@ IsMoved-choice count old mid new dim diagram left right lefts rights made is e c
     }
 
 -- ---- the diagrams of what was found
-
-pub AreCopied-none : (diagrams : List Diagram) (found : List ℕ) → All (λ cell. cell < length diagrams) found → AreCopied diagrams found []
-AreCopied-none diagrams found within = record {
-  few = omega arith;
-  within = within;
-  same = λ place h. absurd (omega arith);
-  placed = All-nil (HasCells (length found));
-}
 
 pub get_or-push : (copies : List Diagram) (copy d : Diagram) → get_or (copies ++ copy ∷ []) (length copies) d ≡ copy
 get_or-push [] copy d = refl

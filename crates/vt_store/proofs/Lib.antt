@@ -1,4 +1,6 @@
+pub mod Results
 pub mod Cells
+pub mod Solutions
 pub mod Acyclic
 pub mod MostGeneral
 pub mod Widening

@@ -40,3 +40,7 @@ fewer_links n e cell next acyclic within is =
 pub Follows-more : (e : ℕ → CellEnd) (first cell next : ℕ) → Follows e first cell → e cell ≡ Same next → Follows e first next
 Follows-more e first cell next (arrived own) is = onward first next next is (arrived next)
 Follows-more e first cell next (onward own other last step rest) is = onward first other next step (Follows-more e other cell next rest is)
+
+pub Follows-then : (e : ℕ → CellEnd) (first cell last : ℕ) → Follows e first cell → Follows e cell last → Follows e first last
+Follows-then e first cell last (arrived own) way = way
+Follows-then e first cell last (onward own next end is rest) way = onward first next last is (Follows-then e next cell last rest way)

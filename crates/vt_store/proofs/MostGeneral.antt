@@ -6,7 +6,8 @@ use Rattle.vt_type.specs.Plain.{kids_of, kid_count, IsWellFormed, AreWellFormed,
 use Rattle.vt_store.specs.Ends.{CellEnd, Free, Same, Made, EachCell, EndsWithin, IsAcyclic, HasArity, AreArities}
 use Rattle.vt_store.specs.Solutions.{plain_kids, Fits, Solves}
 use Rattle.vt_store.specs.Laws.{IsMostGeneral}
-use Rattle.vt_store.proofs.Cells.{All-head, All-tail, All-both, EachCell-each, map-each, EndsWithin-within}
+use Rattle.vt_store.proofs.Cells.{All-head, All-tail, EachCell-each, EachCell-both, map-each, EndsWithin-within}
+use Rattle.vt_store.proofs.Solutions.{IsWellFormed-made}
 
 -- the type of a cell by the types of those that it names; an open cell is a variable of its own
 abbrev pub type_of : (ℕ → Plain) → ℕ → CellEnd → Plain
@@ -24,11 +25,6 @@ type_of-same s t P cell Free same h = refl
 type_of-same s t P cell (Same other) same h = same other h
 type_of-same s t P cell (Made head kids) same h = ap (λ types. Con head (plain_kids types)) (map-each s t P kids same h)
 
-pub EachCell-both : (P Q : ℕ → Type 0) (end : CellEnd) → EachCell P end → EachCell Q end → EachCell (λ cell. P cell × Q cell) end
-EachCell-both P Q Free p q = tt
-EachCell-both P Q (Same cell) p q = (p, q)
-EachCell-both P Q (Made head kids) p q = All-both P Q kids p q
-
 -- the type does not depend on how far down it goes, where all ends are reached
 solution-any : (n : ℕ) (e : ℕ → CellEnd) (one other cell : ℕ) → EndsWithin n e one cell → EndsWithin n e other cell → solution e one cell ≡ solution e other cell
 solution-any n e zero other cell h g = absurd h
@@ -38,24 +34,11 @@ solution-any n e (suc one) (suc other) cell h g =
     (λ below both. solution-any n e one other below both.0 both.1)
     (EachCell-both (EndsWithin n e one) (EndsWithin n e other) (e cell) h.1 g.1)
 
-kid_count-plain_kids : (types : List Plain) → kid_count (plain_kids types) ≡ length types
-kid_count-plain_kids [] = refl
-kid_count-plain_kids (type ∷ types) = omega (arith, kid_count-plain_kids types)
-
-length-types : (s : ℕ → Plain) (kids : List ℕ) → length (map s kids) ≡ length kids
-length-types s [] = refl
-length-types s (kid ∷ kids) = ap suc (length-types s kids)
-
-AreWellFormed-plain_kids : (s : ℕ → Plain) (kids : List ℕ) → All (λ kid. IsWellFormed (s kid)) kids → AreWellFormed (plain_kids (map s kids))
-AreWellFormed-plain_kids s [] h = tt
-AreWellFormed-plain_kids s (kid ∷ kids) h =
-    (All-head (λ own. IsWellFormed (s own)) kid kids h, AreWellFormed-plain_kids s kids (All-tail (λ own. IsWellFormed (s own)) kid kids h))
-
 pub type_of-well_formed : (s : ℕ → Plain) (cell : ℕ) (end : CellEnd) → HasArity end → EachCell (λ below. IsWellFormed (s below)) end → IsWellFormed (type_of s cell end)
 type_of-well_formed s cell Free arity h = tt
 type_of-well_formed s cell (Same other) arity h = h
 type_of-well_formed s cell (Made head kids) arity h =
-    (kid_count-plain_kids (map s kids) ∙ length-types s kids ∙ arity, AreWellFormed-plain_kids s kids h)
+    IsWellFormed-made s head kids arity h
 
 solution-well_formed : (n : ℕ) (e : ℕ → CellEnd) → AreArities n e → (most cell : ℕ) → EndsWithin n e most cell → IsWellFormed (solution e most cell)
 solution-well_formed n e arities zero cell h = absurd h

@@ -2,9 +2,8 @@ use Rattle.std.proofs.Common.{◌≡◌, ◌⊎◌, ℕ, zero, suc, ◌+◌, ◌
 use Rattle.vt_type.specs.declared.plain.Plain.{Plain}
 use Rattle.vt_store.specs.Ends.{CellEnd, Free, Same, Made, EachCell, EndsWithin, IsAcyclic, AreArities, mapped_end}
 use Rattle.vt_store.specs.Solutions.{Fits, Solves}
-use Rattle.vt_store.proofs.Cells.{EndsWithin-more}
+use Rattle.vt_store.proofs.Cells.{EndsWithin-more, EachCell-both}
 use Rattle.vt_store.proofs.Acyclic.{EndsWithin-tight}
-use Rattle.vt_store.proofs.MostGeneral.{EachCell-both}
 use Rattle.vt_store.proofs.StandingIn.{each-named}
 use Rattle.vt_store.proofs.Widening.{Fits-narrow, carried}
 

@@ -11,9 +11,8 @@ use Rattle.vt_store.specs.declared.diagram.Diagram.{Diagram, Open, Link, Con}
 use Rattle.vt_store.specs.Diagrams.{choice, end_in, IsOrdered, HasCells, IsDiagram, mapped}
 use Rattle.vt_store.specs.Stores.{Cells, end_of, ends_at, cell_count, IsStore}
 use Rattle.vt_store.specs.Parts.{IsPartOf, IsPart, IsFound, AreMoved, AreTaken}
-use Rattle.vt_store.proofs.Cells.{All-each, EachCell-each}
+use Rattle.vt_store.proofs.Cells.{All-each, EachCell-each, EachCell-both}
 use Rattle.vt_store.proofs.Acyclic.{EndsWithin-tight}
-use Rattle.vt_store.proofs.MostGeneral.{EachCell-both}
 use Rattle.vt_store.proofs.Finding.{IsLater-both, map-kept}
 use Rattle.vt_store.proofs.StoreSteps.{HasCells-ends}
 

@@ -157,16 +157,6 @@ AreNames-representatives diagrams names are = record { sized = are.sized; cells 
 
 -- ---- a diagram whose cells are replaced
 
-pub IsRepresented-open : (names : List ℕ) → IsRepresented names Open Open
-IsRepresented-open names = record { ends = λ decision. refl; ordered = λ bound first h. h; cells = λ count h cells. tt }
-
-pub IsRepresented-link : (names : List ℕ) (cell name : ℕ) → name ≡ get_or names cell 0 → IsRepresented names (Link cell) (Link name)
-IsRepresented-link names cell name same = record {
-  ends = λ decision. ap Same same;
-  ordered = λ bound first h. tt;
-  cells = λ count h cells. subst (λ own. own < count) (sym same) (cells cell 0 h);
-}
-
 names_within : (names : List ℕ) (count : ℕ) (kids : List ℕ) → All (λ name. name < count) names → All (λ kid. kid < length names) kids → All (λ kid. kid < count) (map (λ own. get_or names own 0) kids)
 names_within names count [] cells h = All-nil (λ kid. kid < count)
 names_within names count (kid ∷ kids) cells h =

@@ -1,25 +1,22 @@
 use Rattle.std.proofs.Common.{◌≡◌, ◌⊎◌, ℕ, zero, suc, ◌<◌, List, [], ◌∷◌, map, refl, ap, sym, subst, ◌∙◌, inl, inr, arith}
 use Rattle.std.specs.List.{All}
 use Rattle.std.proofs.lemmas.Bool.{cases_eq, cases_lt}
+use Rattle.std.proofs.lemmas.Simd.{map-map}
 use Rattle.vt_type.specs.declared.plain.Plain.{Plain, Var, Con}
 use Rattle.vt_type.specs.Plain.{IsWellFormed}
 use Rattle.vt_store.specs.Ends.{CellEnd, Free, Same, Made, EachCell, EndsWithin, IsAcyclic, AreArities, mapped_end}
 use Rattle.vt_store.specs.Solutions.{plain_kids, Fits, Solves}
 use Rattle.vt_store.specs.Parts.{IsPartOf}
 use Rattle.vt_store.specs.Laws.{Widens}
-use Rattle.vt_store.proofs.Cells.{All-head, All-tail, EachCell-each, EndsWithin-within}
-use Rattle.vt_store.proofs.MostGeneral.{type_of, type_of-same, EachCell-both, type_of-well_formed, type_of-fits}
+use Rattle.vt_store.proofs.Cells.{All-head, All-tail, EachCell-each, EachCell-both, EndsWithin-within}
+use Rattle.vt_store.proofs.MostGeneral.{type_of, type_of-same, type_of-well_formed, type_of-fits}
 
 -- A solution of a part, and one of the whole.
-
-types-mapped : (t : ℕ → Plain) (origin : ℕ → ℕ) (kids : List ℕ) → map t (map origin kids) ≡ map (λ kid. t (origin kid)) kids
-types-mapped t origin [] = refl
-types-mapped t origin (kid ∷ kids) = ap (λ types. t (origin kid) ∷ types) (types-mapped t origin kids)
 
 pub Fits-narrow : (t : ℕ → Plain) (origin : ℕ → ℕ) (type : Plain) (end : CellEnd) → Fits t type (mapped_end origin end) → Fits (λ cell. t (origin cell)) type end
 Fits-narrow t origin type Free h = tt
 Fits-narrow t origin type (Same cell) h = h
-Fits-narrow t origin type (Made head kids) h = h ∙ ap (λ types. Con head (plain_kids types)) (types-mapped t origin kids)
+Fits-narrow t origin type (Made head kids) h = h ∙ ap (λ types. Con head (plain_kids types)) (map-map t origin kids)
 
 pub types-same : (s t : ℕ → Plain) (origin : ℕ → ℕ) (P : ℕ → Type 0) (kids : List ℕ) → ((cell : ℕ) → P cell → t (origin cell) ≡ s cell) → All P kids → map s kids ≡ map t (map origin kids)
 types-same s t origin P [] same h = refl

@@ -123,6 +123,15 @@ impl<const N: usize> Store<N> {
         }
     }
 
+    /// Does nothing. A proof calls it that rests on what holds of each store: no cell contains itself, and a
+    /// head has as many children as its arity.
+    pub fn acyclic(&self)
+        ensures acyclic { (decision : List Side) → IsOf N self.now.space decision → IsAcyclic (cell_count self.now) (ends_at self.now decision) }
+        ensures arities { (decision : List Side) → IsOf N self.now.space decision → AreArities (cell_count self.now) (ends_at self.now decision) }
+    {
+        let _space = self.space;
+    }
+
     pub fn space(&self) -> Space
         ensures space { result ≡ self.now.space }
         ensures acyclic { (decision : List Side) → IsOf N self.now.space decision → IsAcyclic (cell_count self.now) (ends_at self.now decision) }
@@ -306,10 +315,26 @@ impl<const N: usize> Store<N> {
         ensures { IfOk result (λ made. IsCutTo N self.now cells.now root made.0 made.1.items) }
     {
         let sides = reached_on_both(alloc, &self.cells, cells, root, dim)?;
-        let cut = on_sides(alloc, &self.cells, dim, &sides)?;
-        let names = pairs(alloc, &cut, &sides)?;
+        let cut = match on_sides(alloc, &self.cells, dim, &sides) {
+            Ok(cut) => cut,
+            Err(fault) => {
+                drop(sides);
+                return Err(fault);
+            }
+        };
+        let names = pairs(alloc, &cut, &sides);
+        drop(sides);
+        let names = match names {
+            Ok(names) => names,
+            Err(fault) => {
+                drop(cut);
+                return Err(fault);
+            }
+        };
+        let cells = represented(alloc, &cut, &names);
+        drop(cut);
         let store = Store {
-            cells: represented(alloc, &cut, &names)?,
+            cells: cells?,
             alloc,
             space: self.space,
         };
@@ -322,8 +347,8 @@ impl<const N: usize> Store<N> {
         requires decision { IsOf N self.now.space decision.now }
         ensures { LooksAs (ends_at self.now decision.now) cell result }
     {
-        // What it ensures of the store is what makes the loop end.
-        let _space = self.space();
+        // This makes the loop end.
+        self.acyclic();
         let mut last = cell;
         'links: loop {
             match self.end(last, decision) {
