@@ -12,7 +12,7 @@ use Rattle.vt_syntax.specs.declared.core_expr.Form.{Form, Literal, Name, Const, 
 use Rattle.vt_syntax.specs.declared.core_program.CoreDef.{CoreDef}
 use Rattle.vt_syntax.specs.declared.core_program.CoreProgram.{CoreProgram}
 use Rattle.vt_syntax.specs.CoreTrees.{core, fun_of, app_of, let_of, let_rec_of, choice_of, choice_form}
-use Rattle.vt_syntax.specs.Checking.{numbers_of, IsInCheckingOrder}
+use Rattle.vt_syntax.specs.Checking.{numbers_of, IsInCheckingOrder, IsGreatest}
 use Rattle.vt_syntax.specs.Programs.{nested, whole}
 use Rattle.vt_syntax.specs.Scoping.{HasDims}
 use Rattle.vt_syntax.specs.Selection.{selected_core_def, selected_form, selected_core_program, chosen, core_at, IsPlainForm}
@@ -33,7 +33,7 @@ use Rattle.vt_rules.proofs.InOrder.{AllNodes, all_nodes}
 use Rattle.vt_rules.proofs.NodesAbove.{weaker}
 use Rattle.vt_infer.specs.declared.environment.Entry.{Entry}
 use Rattle.vt_infer.specs.Definitions.{places_after, env_after, AreTyped, AreChecked}
-use Rattle.vt_infer.specs.Inferred.{IsPartAt, IsGreatest}
+use Rattle.vt_infer.specs.Inferred.{IsPartAt}
 use Rattle.vt_infer.specs.Inferred as inferred
 use Rattle.vt_infer.specs.Inferring.{solutions_at}
 use Rattle.vt_infer.specs.Numbered.{IsNumberedCore, AreBefore}

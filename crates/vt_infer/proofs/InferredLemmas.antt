@@ -9,7 +9,7 @@ use Rattle.vt_dec.specs.declared.fate.Fate.{Fate}
 use Rattle.vt_dec.specs.declared.fate.Fate.TheVariants.{Alive, Dead}
 use Rattle.vt_dec.specs.Decisions.{Region, Agrees, Admits}
 use Rattle.vt_syntax.specs.declared.core_program.CoreProgram.{CoreProgram}
-use Rattle.vt_syntax.specs.Checking.{numbers_of, IsInCheckingOrder}
+use Rattle.vt_syntax.specs.Checking.{numbers_of, IsInCheckingOrder, IsGreatest}
 use Rattle.vt_syntax.specs.Programs.{nested}
 use Rattle.vt_syntax.specs.Scoping.{IsClosed}
 use Rattle.vt_syntax.specs.Selection.{core_at}
@@ -23,7 +23,7 @@ use Rattle.vt_infer.specs.declared.typed.Typed.{Typed}
 use Rattle.vt_infer.specs.declared.work.Work.{Work}
 use Rattle.vt_infer.specs.Definitions.{places_after}
 use Rattle.vt_infer.specs.Environments.{IsHeld, mono_cells}
-use Rattle.vt_infer.specs.Inferred.{IsInferred, IsPartAt, IsGreatest, AreMarks, chosen}
+use Rattle.vt_infer.specs.Inferred.{IsInferred, IsPartAt, AreMarks, chosen}
 use Rattle.vt_infer.specs.Inferring.{IsReady, IsExpressed, solutions_at}
 use Rattle.vt_infer.specs.Parts.{Covers, HasSolutions, IsClosedForm, IsReachedAt, IsReached, IsStarted, defs_at}
 use Rattle.vt_infer.proofs.FinishedLemmas.{reached_first, finish, main_reads, IsFinishedAt}

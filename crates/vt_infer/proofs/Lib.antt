@@ -28,7 +28,6 @@ pub mod FinishedLemmas
 pub mod DefinedLemmas
 pub mod ReachedSteps
 pub mod InferredLemmas
-pub mod GreatestLemmas
 pub mod SizeLemmas
 pub mod Popping
 pub mod Built

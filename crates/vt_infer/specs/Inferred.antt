@@ -6,7 +6,7 @@ use Rattle.vt_dec.specs.declared.fate.Fate.{Fate}
 use Rattle.vt_dec.specs.declared.fate.Fate.TheVariants.{Alive, Dead}
 use Rattle.vt_syntax.specs.declared.core_expr.Core.{Core}
 use Rattle.vt_syntax.specs.declared.core_program.CoreProgram.{CoreProgram}
-use Rattle.vt_syntax.specs.Checking.{numbers_of}
+use Rattle.vt_syntax.specs.Checking.{numbers_of, IsGreatest}
 use Rattle.vt_syntax.specs.Programs.{whole}
 use Rattle.vt_syntax.specs.Selection.{selected_core_program}
 use Rattle.vt_type.specs.declared.plain.Plain.{Plain}
@@ -36,11 +36,6 @@ pub record IsPartAt {N : ℕ} (K : List Constant) (core : CoreProgram) (part : �
   pub shown : IsShown mark fate ↔ IsTyped K (chosen decision (prefix core part))
   pub reads : IsShown mark fate → (type : Plain)
       → ReadsAs (cell_count scheme.cells) (ends_at scheme.cells decision) scheme.root type ↔ (Principal K (chosen decision (prefix core part)) type × IsCanonical type)
-
--- the greatest of some numbers
-pub record IsGreatest (number : ℕ) (numbers : List ℕ) : Type 0 where
-  pub one_of : Contains numbers number
-  pub greatest : All (λ other. other ≤ number) numbers
 
 -- The mark of a definition is its node, that of the main expression the greatest number of a node of it.
 abbrev pub AreMarks : CoreProgram → List ℕ → Type 0

@@ -145,9 +145,3 @@ pub record IsStarted (N : ℕ) (space : Space) (work : Work N) : Type 0 where
   pub pattern_space : work.pattern.space ≡ space
   pub environment : work.environment ≡ []
   pub alive : (decision : List Side) → IsOf N space decision → fate_at work.pattern decision ≡ Alive
-
--- the greater of two numbers
-pub record IsGreater (result one other : ℕ) : Type 0 where
-  pub either : (result ≡ one) ⊎ (result ≡ other)
-  pub left : one ≤ result
-  pub right : other ≤ result

@@ -10,14 +10,13 @@ use crate::Typed;
 use crate::definitions::{definitions, solvable};
 use crate::environment::Environment;
 use crate::expression::expression;
-use crate::last_node::last_node;
 use crate::typed::{Marks, Schemes};
 use crate::work::Work;
 use std::alloc::{AllocError, Global};
 use vt_dec::{Context, Space};
 use vt_scheme::freeze;
 use vt_store::{Pattern, Store};
-use vt_syntax::CoreProgram;
+use vt_syntax::{CoreProgram, last_node};
 use vt_type::Constants;
 
 /// The types of a program at each decision of a space: of its main expression, and of each part.

@@ -14,7 +14,6 @@ pub mod environment;
 pub mod expression;
 mod inference;
 mod joining;
-mod last_node;
 pub mod laws;
 mod naming;
 mod steps;

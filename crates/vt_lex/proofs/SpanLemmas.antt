@@ -7,11 +7,11 @@ use Rattle.std.proofs.lemmas.List.Kept.{AllPairs-cons}
 use Rattle.std.proofs.lemmas.Str.{encodes-append, encode_ascii, length-le-encodes, IsCharBoundary-at_seam}
 use Rattle.vt_lex.specs.declared.token.Token.{Token}
 use Rattle.vt_lex.specs.declared.token.TokenKind.TheVariants as kind
-use Rattle.vt_lex.specs.Tokens.{Spelled, IsDimension}
+use Rattle.vt_lex.specs.Tokens.{Spelled, IsDimension, at_sign}
 use Rattle.vt_lex.specs.Lexing.{byte_count, Lexes, end, token, Misses, later, big_number, open_string, bad_character, IsMissUnless, AreCharactersOf}
 use Rattle.vt_lex.specs.declared.fault.LexFault.{LexFault}
 use Rattle.vt_lex.specs.declared.fault.LexFault.TheVariants.{BadCharacter, OpenString, BigNumber, Memory}
-use Rattle.vt_lex.specs.Spans.{IsSpanIn, BeginWithAt, IsPlaceIn, LiesIn}
+use Rattle.vt_lex.specs.Spans.{IsSpanIn, AreNotEmpty, BeginsWithAt, BeginWithAt, IsPlaceIn, LiesIn}
 use Rattle.vt_lex.proofs.FoundLemmas.{piece_length}
 
 -- Where the tokens of a text stand in its bytes.
@@ -54,22 +54,24 @@ byte_at text at c cs low h =
 -- what is said of the spans of tokens from this byte on
 pub record SpansFrom (text : List ℕ) (at : ℕ) (tokens : List Token) : Type 0 where
   pub inside : All (λ t. IsSpanIn text t.span) tokens
+  pub nonempty : AreNotEmpty tokens
   pub later : All (λ t. at ≤ t.span.start) tokens
   pub ordered : AllPairs (λ t u. t.span.end ≤ u.span.start) tokens
   pub dimensions : BeginWithAt text tokens
 
 -- a dimension begins with its at sign
-at_sign : (text : List ℕ) (at : ℕ) (cs rest : List ℕ) → IsDimension cs → IsRest text at (cs ++ rest) → slice_index text at ≡ 64
-at_sign text at [] rest h here = absurd h
-at_sign text at (c ∷ cs) rest h here = byte_at text at c (cs ++ rest) (rw h.0 (omega arith)) here ∙ h.0
+sign_at : (text : List ℕ) (at : ℕ) (cs rest : List ℕ) → IsDimension cs → IsRest text at (cs ++ rest) → slice_index text at ≡ at_sign
+sign_at text at [] rest h here = absurd h
+sign_at text at (c ∷ cs) rest h here = byte_at text at c (cs ++ rest) (rw h.0 (omega arith)) here ∙ h.0
 
 -- the spans of the tokens of what is left
 pub spans_from : (text : List ℕ) (at : ℕ) (cs : List ℕ) (tokens : List Token) → Lexes at cs tokens → IsRest text at cs → SpansFrom text at tokens
 spans_from text _ _ _ (end at gap is_gap) here = record {
   inside = All-nil (λ t. IsSpanIn text t.span);
+  nonempty = All-nil (λ t. t.span.start < t.span.end);
   later = All-nil (λ t. at ≤ t.span.start);
   ordered = λ i j d before in_range. absurd (omega arith);
-  dimensions = All-nil (λ t. t.kind ≡ kind.Dim → slice_index text t.span.start ≡ 64);
+  dimensions = All-nil (λ t. t.kind ≡ kind.Dim → BeginsWithAt text t.span);
 }
 spans_from text _ _ _ (token at gap cs rest t tokens is_gap longest spelled span more) here =
     let first = rest_after text at gap (cs ++ rest) here in
@@ -81,14 +83,18 @@ spans_from text _ _ _ (token at gap cs rest t tokens is_gap longest spelled span
     let some = piece_length cs longest.piece in
     record {
       inside = All-cons (λ t. IsSpanIn text t.span) t tokens (record {
-        nonempty = omega arith;
+        ordered = omega arith;
         within = omega (arith, within text _ rest second);
         starts = rw starts (boundary text _ _ first);
         ends = rw ends (boundary text _ _ second);
       }) others.inside;
+      nonempty = All-cons (λ t. t.span.start < t.span.end) t tokens (omega arith) others.nonempty;
       later = All-cons (λ t. at ≤ t.span.start) t tokens (omega arith) (All-weaker (λ u. at + byte_count gap + byte_count cs ≤ u.span.start) (λ u. at ≤ u.span.start) (λ u h. omega arith) tokens others.later);
       ordered = AllPairs-cons (λ t u. t.span.end ≤ u.span.start) t tokens (rw ends others.later) others.ordered;
-      dimensions = All-cons (λ t. t.kind ≡ kind.Dim → slice_index text t.span.start ≡ 64) t tokens (λ dimension. rw starts (at_sign text _ cs rest (subst (λ k. Spelled k cs) dimension spelled) first)) others.dimensions;
+      dimensions = All-cons (λ t. t.kind ≡ kind.Dim → BeginsWithAt text t.span) t tokens (λ dimension. record {
+        nonempty = omega arith;
+        sign = rw starts (sign_at text _ cs rest (subst (λ k. Spelled k cs) dimension spelled) first);
+      }) others.dimensions;
     }
 
 -- the spans of the tokens of a text

@@ -7,6 +7,10 @@ use Rattle.vt_lex.specs.Tokens.{Spelled, IsBigNumber, IsPiece}
 
 -- The list of tokens of a text, on its characters; places are counted in bytes of UTF-8.
 
+-- how many bytes a text may have
+abbrev pub most_bytes : ℕ
+most_bytes = 262144
+
 -- how many bytes characters take
 abbrev pub byte_count : List ℕ → ℕ
 byte_count cs = length (encode_utf8_all cs)

@@ -93,10 +93,14 @@ abbrev pub IsWord : List ℕ → Type 0
 IsWord [] = ⊥
 IsWord (c ∷ cs) = IsNameStart c × AreNameParts cs
 
+-- the character that begins a dimension
+abbrev pub at_sign : ℕ
+at_sign = 64
+
 -- a dimension: an at sign that a word follows at once
 abbrev pub IsDimension : List ℕ → Type 0
 IsDimension [] = ⊥
-IsDimension (c ∷ cs) = (c ≡ 64) × IsWord cs
+IsDimension (c ∷ cs) = (c ≡ at_sign) × IsWord cs
 
 -- the largest number that may be written
 abbrev pub largest_number : ℕ

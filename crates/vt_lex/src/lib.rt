@@ -20,7 +20,7 @@ pub use lexer::lex;
 pub use place::{LineCol, line_col};
 pub use span::Span;
 pub use token::{Key, Sign, Token, TokenKind};
-pub use word::Word;
+pub use word::{Word, dim_at, word_at};
 
 #[cfg(test)]
 mod tests;

@@ -1,3 +1,8 @@
+//! Names of a program.
+ghost use Rattle.std.specs.Prelude.{◌≡◌, IfOk};
+ghost use Rattle.vt_lex.specs.Spans.{IsSpanIn, BeginsWithAt, word_at, dim_at};
+
+use crate::Span;
 use std::alloc::{AllocError, Global};
 use std::marker::Model;
 
@@ -36,4 +41,23 @@ impl Word {
     {
         Ok(Word::new(String::from_str(alloc, self.as_str())?))
     }
+}
+
+/// The text of a span.
+pub fn word_at(alloc: Global, text: &str, span: Span) -> Result<Word, AllocError>
+    requires { IsSpanIn text.now span }
+    ensures { IfOk result (λ word. word ≡ word_at text.now span) }
+{
+    let word = &text[span.start as usize..span.end as usize];
+    Ok(Word::new(String::from_str(alloc, word)?))
+}
+
+/// The name of a dimension, behind its at sign.
+pub fn dim_at(alloc: Global, text: &str, span: Span) -> Result<Word, AllocError>
+    requires span { IsSpanIn text.now span }
+    requires sign { BeginsWithAt text.now span }
+    ensures { IfOk result (λ word. word ≡ dim_at text.now span) }
+{
+    let word = &text[span.start as usize + 1..span.end as usize];
+    Ok(Word::new(String::from_str(alloc, word)?))
 }

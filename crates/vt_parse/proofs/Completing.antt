@@ -10,7 +10,7 @@ use Rattle.vt_syntax.specs.declared.expr.ExprForm as form
 use Rattle.vt_syntax.specs.declared.program.Def.{Def}
 use Rattle.vt_syntax.specs.declared.program.Program.{Program}
 use Rattle.vt_syntax.specs.SurfaceTrees.{exprs}
-use Rattle.vt_syntax.specs.Infixes.{Infix, Operator, Applied}
+use Rattle.vt_syntax.specs.Infixes.{Infix, Operator, Applied, infix_of}
 use Rattle.vt_syntax.specs.Spelling as spelling
 use Rattle.vt_syntax.specs.Spelling.{token, key, sign, Part, part, wrapped, joined, across, Spells, SpellsItems, SpellsProgram, SpellsIn, def_head}
 use Rattle.vt_parse.specs.declared.mark.Mark.{Mark}
@@ -22,7 +22,7 @@ use Rattle.vt_parse.specs.declared.frame.Right.{Right}
 use Rattle.vt_parse.specs.declared.frame.Naming.{Naming}
 use Rattle.vt_parse.specs.declared.frame.Place.{Place}
 use Rattle.vt_parse.specs.declared.frame.Place.TheVariants as place
-use Rattle.vt_parse.specs.Frames.{part_of, operand_of, infix_of, closed, deeper_tail, deeper_middle, deeper_right, deeper_naming, deeper}
+use Rattle.vt_parse.specs.Frames.{part_of, operand_of, closed, deeper_tail, deeper_middle, deeper_right, deeper_naming, deeper}
 use Rattle.vt_parse.specs.Machine.{State, initial, run, depth_over, depth_at, need}
 use Rattle.vt_parse.proofs.KnownWords.{kind_of_mark}
 use Rattle.vt_parse.proofs.Standing

@@ -10,7 +10,8 @@ use Rattle.vt_syntax.specs.declared.program.Program.{Program}
 use Rattle.vt_syntax.specs.SurfaceTrees.{core_nodes, list_nodes}
 use Rattle.vt_syntax.specs.Programs.{program_nodes}
 use Rattle.vt_syntax.specs.Infixes.{Infix, Operator, Applied, infix_tokens}
-use Rattle.vt_syntax.specs.Spelling.{Part, Spells, number, quoted, yes, no, name, hole, empty, list, parens, pair, choice, joins, fun, let_in, let_rec, if_else, match_list, SpellsItems, last, more, SpellsProgram, main, def, SpellsIn, word_at}
+use Rattle.vt_lex.specs.Spans.{word_at}
+use Rattle.vt_syntax.specs.Spelling.{Part, Spells, number, quoted, yes, no, name, hole, empty, list, parens, pair, choice, joins, fun, let_in, let_rec, if_else, match_list, SpellsItems, last, more, SpellsProgram, main, def, SpellsIn}
 
 -- The core of what tokens spell has fewer than four nodes a token.
 

@@ -3,7 +3,7 @@ use Rattle.std.proofs.lemmas.List.{drop_all}
 use Rattle.std.specs.Prelude.{Bool, true, false, if◌then◌else◌, nat_le, Option, Some, None}
 use Rattle.vt_lex.specs.declared.span.Span.{Span}
 use Rattle.vt_syntax.specs.declared.expr.Op.{Op}
-use Rattle.vt_syntax.specs.Infixes.{level}
+use Rattle.vt_syntax.specs.Infixes.{level, infix_of}
 use Rattle.vt_parse.specs.declared.operand.Operand.{Operand}
 use Rattle.vt_parse.specs.declared.frame.Frame.{Frame}
 use Rattle.vt_parse.specs.declared.frame.Frame.TheVariants as frame
@@ -15,7 +15,7 @@ use Rattle.vt_parse.specs.declared.frame.Right.{Right}
 use Rattle.vt_parse.specs.declared.frame.Right.TheVariants as right
 use Rattle.vt_parse.specs.declared.frame.Naming.{Naming}
 use Rattle.vt_parse.specs.declared.frame.Naming.TheVariants as naming
-use Rattle.vt_parse.specs.Frames.{infix_of, both, closed, deeper, deeper_tail, deeper_middle, deeper_right, deeper_naming}
+use Rattle.vt_parse.specs.Frames.{both, closed, deeper, deeper_tail, deeper_middle, deeper_right, deeper_naming}
 use Rattle.vt_parse.specs.Machine.{shut, depth_over}
 
 -- How deep open constructs are.

@@ -7,7 +7,7 @@ use Rattle.vt_lex.specs.declared.token.Token.{Token}
 use Rattle.vt_syntax.specs.declared.expr.Op.{Op}
 use Rattle.vt_syntax.specs.declared.expr.Exprs.{Exprs}
 use Rattle.vt_syntax.specs.SurfaceTrees.{exprs}
-use Rattle.vt_syntax.specs.Infixes.{left_level}
+use Rattle.vt_syntax.specs.Infixes.{left_level, infix_of}
 use Rattle.vt_parse.specs.declared.operand.Operand.{Operand}
 use Rattle.vt_parse.specs.declared.operand.Binder.{Binder}
 use Rattle.vt_parse.specs.declared.mark.Mark.{Mark}
@@ -26,7 +26,7 @@ use Rattle.vt_parse.specs.declared.frame.Naming.TheVariants as naming
 use Rattle.vt_parse.specs.declared.frame.Place.{Place}
 use Rattle.vt_parse.specs.declared.frame.Place.TheVariants as place
 use Rattle.vt_parse.specs.Words.{start_of, mark_of}
-use Rattle.vt_parse.specs.Frames.{infix_of, defined, leaf_at, opened, opened_place, stated, place_after, awaited, passed, passed_place, bracket, enclosed, named, named_mark, made_recursive, deeper_middle, deeper_right, deeper}
+use Rattle.vt_parse.specs.Frames.{defined, leaf_at, opened, opened_place, stated, place_after, awaited, passed, passed_place, bracket, enclosed, named, named_mark, made_recursive, deeper_middle, deeper_right, deeper}
 use Rattle.vt_parse.specs.Machine.{State, initial, moved, same_mark, shut, Reduced, reduce, may_join, pending, end_empty, define, begin, name_recursive, name, want, await, end_list, list_mark, paren_mark, end_part, end_at, argument, follow, continue, step, run, depth_over, depth_wanted, depth_at, need, finish_with, finish_at, finish, Finished}
 use Rattle.vt_parse.proofs.Running.{after}
 

@@ -11,7 +11,7 @@ use Rattle.vt_syntax.specs.declared.expr.Op.{Op}
 use Rattle.vt_syntax.specs.declared.expr.Exprs.{Exprs, Nil}
 use Rattle.vt_syntax.specs.declared.program.Def.{Def}
 use Rattle.vt_syntax.specs.SurfaceTrees.{exprs}
-use Rattle.vt_syntax.specs.Infixes.{level, left_level, infix_tokens, op_kind}
+use Rattle.vt_syntax.specs.Infixes.{level, left_level, infix_tokens, op_kind, infix_of}
 use Rattle.vt_syntax.specs.Spelling as spelling
 use Rattle.vt_syntax.specs.Spelling.{token, key, sign, Spells, SpellsItems, SpellsProgram, def_head}
 use Rattle.vt_parse.specs.declared.operand.Operand.{Operand}
@@ -33,7 +33,7 @@ use Rattle.vt_parse.specs.declared.frame.Naming.{Naming}
 use Rattle.vt_parse.specs.declared.frame.Place.{Place}
 use Rattle.vt_parse.specs.declared.frame.Place.TheVariants as place
 use Rattle.vt_parse.specs.Words.{start_of, operator_of, mark_of}
-use Rattle.vt_parse.specs.Frames.{part_of, infix_of, binder_at, leaf_at, opened, opened_place, stated, place_after, awaited, passed, passed_place, bracket, enclosed, named, named_mark, made_recursive, defined}
+use Rattle.vt_parse.specs.Frames.{part_of, binder_at, leaf_at, opened, opened_place, stated, place_after, awaited, passed, passed_place, bracket, enclosed, named, named_mark, made_recursive, defined}
 use Rattle.vt_parse.specs.Machine.{State, initial, moved, same_mark, reduce, Reduced, may_join, pending, join, may_state, end_empty, define, begin, name_recursive, name, want, await, end_list, list_mark, paren_mark, end_part, end_at, argument, follow, continue, step_at, step, run, Finished, finish_with, finish_at, finish}
 use Rattle.vt_parse.proofs.KnownWords.{kind_of_mark, kind_of_statement, kind_of_opening, IsMark, marks, IsOperator, operators, kind_of_leaf, IsStart, starts, same_mark-true, if_some}
 use Rattle.vt_parse.proofs.Standing

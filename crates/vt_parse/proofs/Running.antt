@@ -5,7 +5,7 @@ use Rattle.std.proofs.lemmas.Bool.{le-leb, lt-leb}
 use Rattle.vt_lex.specs.declared.span.Span.{Span}
 use Rattle.vt_lex.specs.declared.token.Token.{Token}
 use Rattle.vt_syntax.specs.declared.expr.Op.{Op}
-use Rattle.vt_syntax.specs.Infixes.{Infix, level, left_level, right_level}
+use Rattle.vt_syntax.specs.Infixes.{Infix, level, left_level, right_level, infix_of}
 use Rattle.vt_syntax.specs.Spelling.{Part}
 use Rattle.vt_parse.specs.declared.operand.Operand.{Operand}
 use Rattle.vt_parse.specs.declared.mark.Mark.{Mark}
@@ -14,7 +14,7 @@ use Rattle.vt_parse.specs.declared.frame.Frame.TheVariants as frame
 use Rattle.vt_parse.specs.declared.frame.Tail.{Tail}
 use Rattle.vt_parse.specs.declared.frame.Place.TheVariants as place
 use Rattle.vt_parse.specs.Words.{start_of, operator_of}
-use Rattle.vt_parse.specs.Frames.{infix_of, operand_of, both, closed}
+use Rattle.vt_parse.specs.Frames.{operand_of, both, closed}
 use Rattle.vt_parse.specs.Machine.{State, moved, Reduced, shut, reduce, may_join, may_state, pending, join, begin, want, continue, end_at, end_part, step, run}
 
 -- How the machine runs over one list and then another, and how operands close what is open.

@@ -2,12 +2,12 @@ use Rattle.std.proofs.Common.{◌≡◌, ℕ, zero, suc, ◌≤◌, true, false,
 use Rattle.std.proofs.lemmas.Bool.{leb-true}
 use Rattle.vt_lex.specs.declared.token.Token.{Token}
 use Rattle.vt_syntax.specs.declared.program.Def.{Def}
-use Rattle.vt_syntax.specs.Infixes.{level}
+use Rattle.vt_syntax.specs.Infixes.{level, infix_of}
 use Rattle.vt_syntax.specs.Spelling.{Part, Spells, fun, let_in, let_rec, if_else, match_list, joins}
 use Rattle.vt_parse.specs.declared.operand.Operand.{Operand}
 use Rattle.vt_parse.specs.declared.frame.Frame.{Frame}
 use Rattle.vt_parse.specs.declared.frame.Tail.{Tail}
-use Rattle.vt_parse.specs.Frames.{part_of, infix_of, both, closed}
+use Rattle.vt_parse.specs.Frames.{part_of, both, closed}
 use Rattle.vt_parse.specs.Machine.{shut, reduce, Reduced}
 use Rattle.vt_parse.proofs.KnownWords.{if_some}
 use Rattle.vt_parse.proofs.Standing

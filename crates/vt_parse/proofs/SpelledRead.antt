@@ -11,8 +11,9 @@ use Rattle.vt_syntax.specs.declared.expr.Exprs.{Exprs, Nil}
 use Rattle.vt_syntax.specs.declared.expr.ExprForm as form
 use Rattle.vt_syntax.specs.declared.program.Def.{Def}
 use Rattle.vt_syntax.specs.SurfaceTrees.{exprs, fun_form, let_form, if_form, match_form, pair_form, choice_form}
-use Rattle.vt_syntax.specs.Infixes.{Infix, Operator, Applied, level, left_level, right_level, op_kind, infix_tokens}
-use Rattle.vt_syntax.specs.Spelling.{token, key, sign, word_at, dim_at, across, Part, part, wrapped, joined, Spells, SpellsItems, SpellsProgram, def_head}
+use Rattle.vt_syntax.specs.Infixes.{Infix, Operator, Applied, level, left_level, right_level, op_kind, infix_tokens, infix_of}
+use Rattle.vt_lex.specs.Spans.{word_at, dim_at}
+use Rattle.vt_syntax.specs.Spelling.{token, key, sign, across, Part, part, wrapped, joined, Spells, SpellsItems, SpellsProgram, def_head}
 use Rattle.vt_syntax.specs.Spelling.SpellsItems.{last, more}
 use Rattle.vt_syntax.specs.Spelling.SpellsProgram.{main, def}
 use Rattle.vt_syntax.specs.Spelling.Spells.{number, quoted, yes, no, name, hole, empty, list, parens, pair, choice, joins, fun, let_in, let_rec, if_else, match_list}
@@ -35,7 +36,7 @@ use Rattle.vt_parse.specs.declared.frame.Naming.TheVariants as naming
 use Rattle.vt_parse.specs.declared.frame.Place.{Place}
 use Rattle.vt_parse.specs.declared.frame.Place.TheVariants as place
 use Rattle.vt_parse.specs.Words.{start_of, operator_of}
-use Rattle.vt_parse.specs.Frames.{part_of, operand_of, binder_at, dim_binder_at, leaf_at, stated, closed, infix_of, both, defined}
+use Rattle.vt_parse.specs.Frames.{part_of, operand_of, binder_at, dim_binder_at, leaf_at, stated, closed, both, defined}
 use Rattle.vt_parse.specs.Machine.{State, initial, moved, join, follow, argument, continue, step, run, reduce, end_part, list_mark, end_list, finish, finish_reduced, Finished}
 use Rattle.vt_parse.proofs.Running.{Takes, Runs, takes_first, takes_last, runs_both, reduce-lower, left-levels, right-levels, Fits, Fits-higher, may_state-fits, join-fits, closes-joint, Reads, enters, passes}
 

@@ -7,7 +7,7 @@ use Rattle.vt_lex.specs.declared.token.Token.{Token}
 use Rattle.vt_syntax.specs.declared.expr.Expr.{Expr}
 use Rattle.vt_syntax.specs.declared.expr.Op.{Op}
 use Rattle.vt_syntax.specs.declared.program.Def.{Def}
-use Rattle.vt_syntax.specs.Infixes.{level, left_level, right_level, infix_tokens}
+use Rattle.vt_syntax.specs.Infixes.{level, left_level, right_level, infix_tokens, infix_of}
 use Rattle.vt_syntax.specs.Spelling.{token, key, sign, Spells, SpellsProgram, def_head}
 use Rattle.vt_parse.specs.declared.operand.Operand.{Operand}
 use Rattle.vt_parse.specs.declared.mark.Mark.{Mark}
@@ -24,7 +24,7 @@ use Rattle.vt_parse.specs.declared.frame.Naming.{Naming}
 use Rattle.vt_parse.specs.declared.frame.Naming.TheVariants as naming
 use Rattle.vt_parse.specs.declared.frame.Place.{Place}
 use Rattle.vt_parse.specs.declared.frame.Place.TheVariants as place
-use Rattle.vt_parse.specs.Frames.{part_of, infix_of, binder_at, dim_binder_at}
+use Rattle.vt_parse.specs.Frames.{part_of, binder_at, dim_binder_at}
 use Rattle.vt_parse.specs.Machine.{State}
 use Rattle.vt_parse.proofs.KnownWords.{kind_of_mark}
 

@@ -12,7 +12,7 @@ use Rattle.vt_syntax.specs.declared.expr.ExprForm as form
 use Rattle.vt_syntax.specs.declared.program.Def.{Def}
 use Rattle.vt_syntax.specs.declared.program.Program.{Program}
 use Rattle.vt_syntax.specs.SurfaceTrees.{exprs}
-use Rattle.vt_syntax.specs.Infixes.{left_level}
+use Rattle.vt_syntax.specs.Infixes.{left_level, infix_of}
 use Rattle.vt_syntax.specs.Spelling.{part, across, most_depth}
 use Rattle.vt_parse.specs.declared.operand.Operand.{Operand}
 use Rattle.vt_parse.specs.declared.mark.Mark.{Mark}
@@ -25,7 +25,7 @@ use Rattle.vt_parse.specs.declared.frame.Naming.{Naming}
 use Rattle.vt_parse.specs.declared.frame.Place.{Place}
 use Rattle.vt_parse.specs.declared.frame.Place.TheVariants as place
 use Rattle.vt_parse.specs.Words.{start_of, operator_of, mark_of}
-use Rattle.vt_parse.specs.Frames.{operand_of, infix_of, deeper}
+use Rattle.vt_parse.specs.Frames.{operand_of, deeper}
 use Rattle.vt_parse.specs.Machine.{State, Reduced, moved, reduce, may_join, join, argument, begin, want, name, end_list, list_mark, end_part, end_at, follow, continue, step, step_at, await, depth_over, depth_at, need, finish, finish_reduced, finish_with}
 use Rattle.vt_parse.specs.Reading.{IsNoNaming, IsNoList, is_operand, IsAdmitted, IsFinishedWith, IsFinished}
 use Rattle.vt_parse.proofs.DepthLemmas.{depth_over-grows}

@@ -4,8 +4,9 @@ use Rattle.vt_syntax.specs.declared.expr.Op.{Op}
 use Rattle.vt_syntax.specs.declared.expr.ExprForm as form
 use Rattle.vt_syntax.specs.declared.program.Def.{Def}
 use Rattle.vt_syntax.specs.SurfaceTrees.{fun_form, let_form, if_form, match_form, pair_form, choice_form}
-use Rattle.vt_syntax.specs.Infixes.{Infix, Operator, Applied}
-use Rattle.vt_syntax.specs.Spelling.{Part, part, wrapped, joined, across, word_at, dim_at}
+use Rattle.vt_syntax.specs.Infixes.{infix_of}
+use Rattle.vt_lex.specs.Spans.{word_at, dim_at}
+use Rattle.vt_syntax.specs.Spelling.{Part, part, wrapped, joined, across}
 use Rattle.vt_parse.specs.declared.operand.Operand.{Operand}
 use Rattle.vt_parse.specs.declared.operand.Binder.{Binder}
 use Rattle.vt_parse.specs.declared.mark.Mark.{Mark}
@@ -38,11 +39,6 @@ part_of p = record { expr = p.expr; span = p.span; depth = p.depth }
 -- and back
 abbrev pub operand_of : Part → Operand
 operand_of p = record { expr = p.expr; span = p.span; depth = p.depth }
-
--- what joins two sides: an operator, or nothing
-abbrev pub infix_of : Option Op → Infix
-infix_of (Some op) = Operator op
-infix_of None = Applied
 
 -- two sides that are joined
 abbrev pub both : Option Op → Span → Operand → Operand → Operand

@@ -10,7 +10,7 @@ use Rattle.vt_syntax.specs.declared.expr.Exprs.{Exprs, Nil}
 use Rattle.vt_syntax.specs.declared.expr.ExprForm as form
 use Rattle.vt_syntax.specs.declared.program.Def.{Def}
 use Rattle.vt_syntax.specs.SurfaceTrees.{exprs}
-use Rattle.vt_syntax.specs.Infixes.{level, left_level, right_level}
+use Rattle.vt_syntax.specs.Infixes.{level, left_level, right_level, infix_of}
 use Rattle.vt_syntax.specs.Spelling.{part, wrapped, across}
 use Rattle.vt_parse.specs.declared.operand.Operand.{Operand}
 use Rattle.vt_parse.specs.declared.mark.Mark.{Mark}
@@ -26,7 +26,7 @@ use Rattle.vt_parse.specs.declared.frame.Naming.TheVariants as naming
 use Rattle.vt_parse.specs.declared.frame.Place.{Place}
 use Rattle.vt_parse.specs.declared.frame.Place.TheVariants as place
 use Rattle.vt_parse.specs.Words.{start_of, operator_of, mark_of, mark_number}
-use Rattle.vt_parse.specs.Frames.{part_of, operand_of, infix_of, both, binder_at, leaf_at, opened, opened_place, stated, place_after, closed, awaited, passed, passed_place, bracket, enclosed, named, named_mark, made_recursive, defined, deeper}
+use Rattle.vt_parse.specs.Frames.{part_of, operand_of, both, binder_at, leaf_at, opened, opened_place, stated, place_after, closed, awaited, passed, passed_place, bracket, enclosed, named, named_mark, made_recursive, defined, deeper}
 
 -- The machine that reads tokens from left to right. It knows nothing of the largest depth.
 

@@ -4,7 +4,7 @@ use Rattle.vt_lex.specs.declared.token.Token.{Token}
 use Rattle.vt_syntax.specs.declared.expr.Op.{Op}
 use Rattle.vt_syntax.specs.declared.program.Def.{Def}
 use Rattle.vt_syntax.specs.declared.program.Program.{Program}
-use Rattle.vt_syntax.specs.Infixes.{level, right_level}
+use Rattle.vt_syntax.specs.Infixes.{level, right_level, infix_of}
 use Rattle.vt_syntax.specs.Spelling.{most_depth}
 use Rattle.vt_parse.specs.declared.operand.Operand.{Operand}
 use Rattle.vt_parse.specs.declared.start.Start.{Start}
@@ -19,7 +19,6 @@ use Rattle.vt_parse.specs.declared.parsing.Outcome.{Outcome}
 use Rattle.vt_parse.specs.declared.parsing.Outcome.TheVariants as outcome
 use Rattle.vt_parse.specs.declared.reduce.Shut.{Shut}
 use Rattle.vt_parse.specs.declared.reduce.Shut.TheVariants.{Closed, Open}
-use Rattle.vt_parse.specs.Frames.{infix_of}
 use Rattle.vt_parse.specs.Machine.{State, Reduced, shut, need, finish}
 
 -- What the reader's functions answer of the machine.

@@ -1,6 +1,6 @@
 //! A token where an expression or a name is wanted.
-ghost use Rattle.std.specs.Prelude.{◌≡◌, ◌∷◌, if◌then◌else◌, IfOk, slice_index};
-ghost use Rattle.vt_lex.specs.Spans.{IsSpanIn};
+ghost use Rattle.std.specs.Prelude.{◌≡◌, ◌∷◌, if◌then◌else◌, IfOk};
+ghost use Rattle.vt_lex.specs.Spans.{IsSpanIn, BeginsWithAt};
 ghost use Rattle.vt_syntax.specs.Spelling.{part};
 ghost use Rattle.vt_parse.specs.declared.start.Opening.TheVariants.{Choice};
 ghost use Rattle.vt_parse.specs.Frames.{operand_of, binder_at, stated, named, named_mark};
@@ -34,7 +34,7 @@ pub fn want(
     reader: Reader,
 ) -> Result<Option<Reader>, AllocError>
     requires span { IsSpanIn text.now token.span }
-    requires sign { token.kind ≡ TokenKind.Dim → slice_index text.now token.span.start ≡ 64 }
+    requires sign { token.kind ≡ TokenKind.Dim → BeginsWithAt text.now token.span }
     ensures { IfOk result (λ next. next ≡ want text.now token reader reader.stack) }
 {
     let mut reader = reader;
@@ -53,7 +53,7 @@ fn want_in(
     reader: Reader,
 ) -> Result<Option<Reader>, AllocError>
     requires span { IsSpanIn text.now token.span }
-    requires sign { token.kind ≡ TokenKind.Dim → slice_index text.now token.span.start ≡ 64 }
+    requires sign { token.kind ≡ TokenKind.Dim → BeginsWithAt text.now token.span }
     ensures { IfOk result (λ next. next ≡ want text.now token (moved reader (frame ∷ reader.stack) reader.next) (frame ∷ reader.stack)) }
 {
     match top_of(frame) {
@@ -91,7 +91,7 @@ pub fn begin(
     reader: Reader,
 ) -> Result<Option<Reader>, AllocError>
     requires span { IsSpanIn text.now at }
-    requires sign { start ≡ Start.Opens Choice → slice_index text.now at.start ≡ 64 }
+    requires sign { start ≡ Start.Opens Choice → BeginsWithAt text.now at }
     ensures { IfOk result (λ next. next ≡ begin text.now start at reader) }
 {
     match start {

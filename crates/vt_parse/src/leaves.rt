@@ -1,7 +1,7 @@
 //! What one token gives: a name, an expression, the start of a construct.
-ghost use Rattle.std.specs.Prelude.{◌≡◌, IfOk, slice_index};
-ghost use Rattle.vt_lex.specs.Spans.{IsSpanIn};
-ghost use Rattle.vt_syntax.specs.Spelling.{word_at, dim_at, part};
+ghost use Rattle.std.specs.Prelude.{◌≡◌, IfOk};
+ghost use Rattle.vt_lex.specs.Spans.{IsSpanIn, BeginsWithAt};
+ghost use Rattle.vt_syntax.specs.Spelling.{part};
 ghost use Rattle.vt_parse.specs.declared.start.Opening;
 ghost use Rattle.vt_parse.specs.Frames.{operand_of, binder_at, dim_binder_at, leaf_at, opened, opened_place, stated};
 
@@ -10,26 +10,8 @@ use crate::mark::Mark;
 use crate::operand::{Binder, Operand};
 use crate::start::{Leaf, Opening, Statement};
 use std::alloc::{AllocError, Global};
-use vt_lex::{Span, Word};
+use vt_lex::{Span, dim_at, word_at};
 use vt_syntax::{Expr, ExprForm};
-
-fn word_at(alloc: Global, text: &str, at: Span) -> Result<Word, AllocError>
-    requires { IsSpanIn text.now at }
-    ensures { IfOk result (λ word. word ≡ word_at text.now at) }
-{
-    let word = &text[at.start as usize..at.end as usize];
-    Ok(Word::new(String::from_str(alloc, word)?))
-}
-
-// The name of a dimension, behind the at sign.
-fn dim_at(alloc: Global, text: &str, at: Span) -> Result<Word, AllocError>
-    requires span { IsSpanIn text.now at }
-    requires sign { slice_index text.now at.start ≡ 64 }
-    ensures { IfOk result (λ word. word ≡ dim_at text.now at) }
-{
-    let word = &text[at.start as usize + 1..at.end as usize];
-    Ok(Word::new(String::from_str(alloc, word)?))
-}
 
 /// The name that is bound here.
 pub fn binder_at(alloc: Global, text: &str, at: Span) -> Result<Binder, AllocError>
@@ -43,7 +25,7 @@ pub fn binder_at(alloc: Global, text: &str, at: Span) -> Result<Binder, AllocErr
 /// The dimension that is named here.
 pub fn dim_binder_at(alloc: Global, text: &str, at: Span) -> Result<Binder, AllocError>
     requires span { IsSpanIn text.now at }
-    requires sign { slice_index text.now at.start ≡ 64 }
+    requires sign { BeginsWithAt text.now at }
     ensures { IfOk result (λ binder. binder ≡ dim_binder_at text.now at) }
 {
     let name = dim_at(alloc, text, at)?;
@@ -80,7 +62,7 @@ fn leaf_of(form: ExprForm, at: Span) -> Operand
 /// The construct that an opening token begins.
 pub fn opened(alloc: Global, text: &str, opening: Opening, at: Span) -> Result<Frame, AllocError>
     requires span { IsSpanIn text.now at }
-    requires sign { opening ≡ Opening.Choice → slice_index text.now at.start ≡ 64 }
+    requires sign { opening ≡ Opening.Choice → BeginsWithAt text.now at }
     ensures { IfOk result (λ frame. frame ≡ opened text.now opening at) }
 {
     match opening {

@@ -21,7 +21,6 @@ mod finishing;
 mod frame;
 pub mod laws;
 mod leaves;
-mod levels;
 mod mark;
 mod moving;
 mod operand;

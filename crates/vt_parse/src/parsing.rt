@@ -1,7 +1,7 @@
 //! The program that tokens spell.
-ghost use Rattle.std.specs.Prelude.{◌↔◌, ◌≡◌, ◌*◌, ◌<◌, ◌≤◌, length, slice_index, IsTrue, IfOk};
+ghost use Rattle.std.specs.Prelude.{◌↔◌, ◌≡◌, ◌*◌, ◌<◌, ◌≤◌, length, IsTrue, IfOk};
 ghost use Rattle.vt_lex.specs.declared.token.TokenKind.TheVariants.{Dim};
-ghost use Rattle.vt_lex.specs.Spans.{IsSpanIn, AreSpansIn, BeginWithAt};
+ghost use Rattle.vt_lex.specs.Spans.{IsSpanIn, AreSpansIn, BeginWithAt, BeginsWithAt};
 ghost use Rattle.vt_syntax.specs.Spelling.{most_depth};
 ghost use Rattle.vt_syntax.specs.Programs.{program_nodes};
 ghost use Rattle.vt_parse.specs.Answer.{IsParsed};
@@ -55,7 +55,7 @@ enum Outcome {
 fn advance(alloc: Global, text: &str, reader: Reader, token: Token) -> Result<Outcome, AllocError>
     requires admitted { need reader ≤ most_depth }
     requires span { IsSpanIn text.now token.span }
-    requires sign { token.kind ≡ Dim → slice_index text.now token.span.start ≡ 64 }
+    requires sign { token.kind ≡ Dim → BeginsWithAt text.now token.span }
     ensures { IfOk result (IsOutcome (step text.now reader token)) }
 {
     let next = step(alloc, text, reader, token)?;

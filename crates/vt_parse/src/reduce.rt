@@ -6,10 +6,10 @@ ghost use Rattle.vt_parse.specs.Reading.{IsShut};
 
 use crate::closing::{both, closed};
 use crate::frame::Frame;
-use crate::levels::level;
 use crate::operand::Operand;
 use crate::stack::Stack;
 use std::alloc::{AllocError, Global};
+use vt_syntax::level;
 
 /// A construct that an operand closes, or both as they were.
 pub enum Shut {

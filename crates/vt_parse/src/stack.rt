@@ -6,12 +6,11 @@ ghost use Rattle.vt_parse.specs.Reading.{IsAdmitted, square_of, joins_after, sta
 
 use crate::depth::deeper;
 use crate::frame::Frame;
-use crate::levels::{level, right_level};
 use std::alloc::{AllocError, Global};
 use std::collections::VecDeque;
 use std::marker::Model;
 use vt_lex::Span;
-use vt_syntax::Op;
+use vt_syntax::{Op, level, right_level};
 
 /// The constructs that are open, the innermost first.
 #[derive(Drop)]

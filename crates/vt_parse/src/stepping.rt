@@ -1,7 +1,7 @@
 //! One token.
-ghost use Rattle.std.specs.Prelude.{◌≡◌, ◌≤◌, IfOk, slice_index};
+ghost use Rattle.std.specs.Prelude.{◌≡◌, ◌≤◌, IfOk};
 ghost use Rattle.vt_lex.specs.declared.token.TokenKind.TheVariants.{Dim};
-ghost use Rattle.vt_lex.specs.Spans.{IsSpanIn};
+ghost use Rattle.vt_lex.specs.Spans.{IsSpanIn, BeginsWithAt};
 ghost use Rattle.vt_syntax.specs.Spelling.{most_depth};
 ghost use Rattle.vt_parse.specs.declared.start.Opening.TheVariants.{Choice};
 ghost use Rattle.vt_parse.specs.Words.{start_of, operator_of};
@@ -11,7 +11,6 @@ ghost use Rattle.vt_parse.specs.Machine.{await, join, argument, follow, continue
 use crate::beginning::{begin, want};
 use crate::ending::end_at;
 use crate::frame::{Frame, Place};
-use crate::levels::left_level;
 use crate::mark::Mark;
 use crate::moving::place_after;
 use crate::operand::Operand;
@@ -21,7 +20,7 @@ use crate::start::Start;
 use crate::words::{mark_of, operator_of, same_mark, start_of};
 use std::alloc::{AllocError, Global};
 use vt_lex::{Span, Token};
-use vt_syntax::Op;
+use vt_syntax::{Op, left_level};
 
 /// The reader after this token, if some program goes on with it.
 pub fn step(
@@ -32,7 +31,7 @@ pub fn step(
 ) -> Result<Option<Reader>, AllocError>
     requires admitted { need reader ≤ most_depth }
     requires span { IsSpanIn text.now token.span }
-    requires sign { token.kind ≡ Dim → slice_index text.now token.span.start ≡ 64 }
+    requires sign { token.kind ≡ Dim → BeginsWithAt text.now token.span }
     ensures { IfOk result (λ next. next ≡ step text.now reader token) }
 {
     let Reader {
@@ -84,7 +83,7 @@ fn continue_with(
 ) -> Result<Option<Reader>, AllocError>
     requires admitted { depth_over reader.stack operand.depth ≤ most_depth }
     requires span { IsSpanIn text.now token.span }
-    requires sign { token.kind ≡ Dim → slice_index text.now token.span.start ≡ 64 }
+    requires sign { token.kind ≡ Dim → BeginsWithAt text.now token.span }
     ensures { IfOk result (λ next. next ≡ continue text.now (operator_of token.kind) token reader operand) }
 {
     match operator_of(token.kind) {
@@ -103,7 +102,7 @@ fn follow(
 ) -> Result<Option<Reader>, AllocError>
     requires admitted { depth_over reader.stack operand.depth ≤ most_depth }
     requires span { IsSpanIn text.now token.span }
-    requires sign { token.kind ≡ Dim → slice_index text.now token.span.start ≡ 64 }
+    requires sign { token.kind ≡ Dim → BeginsWithAt text.now token.span }
     ensures { IfOk result (λ next. next ≡ follow text.now (start_of token.kind) token reader operand) }
 {
     let start = start_of(token.kind);
@@ -124,7 +123,7 @@ fn argument(
     joined: Option<Reader>,
 ) -> Result<Option<Reader>, AllocError>
     requires span { IsSpanIn text.now at }
-    requires sign { start ≡ Start.Opens Choice → slice_index text.now at.start ≡ 64 }
+    requires sign { start ≡ Start.Opens Choice → BeginsWithAt text.now at }
     ensures { IfOk result (λ next. next ≡ argument text.now start at joined) }
 {
     match joined {

@@ -3,3 +3,4 @@ pub mod CoreMakers
 pub mod SurfaceSeen
 pub mod CoreSeen
 pub mod Holing
+pub mod GreatestLemmas

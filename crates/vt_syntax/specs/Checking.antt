@@ -1,4 +1,4 @@
-use Rattle.std.specs.Prelude.{◌≢◌, ℕ, ◌<◌, List, [], ◌∷◌, ◌++◌, AllPairs, Option}
+use Rattle.std.specs.Prelude.{◌≡◌, ◌≢◌, ◌⊎◌, ℕ, ◌<◌, ◌≤◌, List, [], ◌∷◌, ◌++◌, All, AllPairs, Contains, Option}
 use Rattle.vt_dec.specs.declared.side.Side.{Side}
 use Rattle.vt_syntax.specs.declared.core_expr.Core.{Core}
 use Rattle.vt_syntax.specs.declared.core_expr.Form.{Form, Literal, Name, Const, Hole}
@@ -38,3 +38,14 @@ AreDifferent numbers = AllPairs (λ one other. one ≢ other) numbers
 pub record IsInCheckingOrder (program : CoreProgram) : Type 0 where
   pub rise : (taken : ℕ → Option Side) → Rise (numbers_of (whole (selected_core_program taken program)))
   pub differ : AreDifferent (numbers_of (whole program))
+
+-- the greater of two numbers
+pub record IsGreater (result one other : ℕ) : Type 0 where
+  pub either : (result ≡ one) ⊎ (result ≡ other)
+  pub left : one ≤ result
+  pub right : other ≤ result
+
+-- the greatest of some numbers
+pub record IsGreatest (number : ℕ) (numbers : List ℕ) : Type 0 where
+  pub one_of : Contains numbers number
+  pub greatest : All (λ other. other ≤ number) numbers

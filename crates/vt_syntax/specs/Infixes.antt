@@ -1,4 +1,4 @@
-use Rattle.std.specs.Prelude.{ℕ, List, [], ◌∷◌}
+use Rattle.std.specs.Prelude.{ℕ, List, [], ◌∷◌, Option, Some, None}
 use Rattle.vt_lex.specs.declared.span.Span.{Span}
 use Rattle.vt_lex.specs.declared.token.Key.TheVariants.{AndKey, OrKey}
 use Rattle.vt_lex.specs.declared.token.Sign.TheVariants.{Plus, Minus, Star, Caret, Equals, Less, Colons}
@@ -15,6 +15,11 @@ use Rattle.vt_syntax.specs.declared.expr.Op.TheVariants as op
 pub data Infix : Type 0 where
   Operator : (op : Op) → Infix
   Applied : Infix
+
+-- an operator, or nothing
+abbrev pub infix_of : Option Op → Infix
+infix_of (Some op) = Operator op
+infix_of None = Applied
 
 -- the level of what is joined
 abbrev pub level : Infix → ℕ

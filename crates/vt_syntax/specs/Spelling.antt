@@ -1,4 +1,4 @@
-use Rattle.std.specs.Prelude.{ℕ, suc, ◌+◌, ◌≤◌, max, Bool, true, false, List, [], ◌∷◌, ◌++◌, slice_range}
+use Rattle.std.specs.Prelude.{ℕ, suc, ◌≤◌, max, Bool, true, false, List, [], ◌∷◌, ◌++◌}
 use Rattle.vt_lex.specs.declared.span.Span.{Span}
 use Rattle.vt_lex.specs.declared.token.Key.{Key}
 use Rattle.vt_lex.specs.declared.token.Key.TheVariants.{DefKey, RecKey, LetKey, InKey, FunKey, IfKey, ThenKey, ElseKey, MatchKey, WithKey, TrueKey, FalseKey}
@@ -7,6 +7,7 @@ use Rattle.vt_lex.specs.declared.token.Sign.TheVariants.{Arrow, Colons, ParenOpe
 use Rattle.vt_lex.specs.declared.token.TokenKind.{TokenKind}
 use Rattle.vt_lex.specs.declared.token.TokenKind.TheVariants as kind
 use Rattle.vt_lex.specs.declared.token.Token.{Token}
+use Rattle.vt_lex.specs.Spans.{word_at, dim_at}
 use Rattle.vt_syntax.specs.declared.expr.Expr.{Expr}
 use Rattle.vt_syntax.specs.declared.expr.Exprs.{Exprs, Nil}
 use Rattle.vt_syntax.specs.declared.expr.ExprForm.{ExprForm}
@@ -27,14 +28,6 @@ key which at = token (kind.Key which) at
 
 abbrev pub sign : Sign → Span → Token
 sign which at = token (kind.Sign which) at
-
--- the text of a span
-abbrev pub word_at : List ℕ → Span → List ℕ
-word_at text at = slice_range text at.start at.end
-
--- the name of a dimension, behind the at sign
-abbrev pub dim_at : List ℕ → Span → List ℕ
-dim_at text at = slice_range text (at.start + 1) at.end
 
 -- from the start of one span to the end of another
 abbrev pub across : Span → Span → Span

@@ -13,7 +13,8 @@ use Rattle.vt_syntax.specs.declared.expr.Exprs.{Exprs}
 use Rattle.vt_syntax.specs.declared.program.Def.{Def}
 use Rattle.vt_syntax.specs.declared.program.Program.{Program}
 use Rattle.vt_syntax.specs.Infixes.{Operator, Applied, infix_tokens}
-use Rattle.vt_syntax.specs.Spelling.{word_at, Part, Spells, SpellsItems, SpellsProgram, SpellsIn, def_head}
+use Rattle.vt_lex.specs.Spans.{word_at}
+use Rattle.vt_syntax.specs.Spelling.{Part, Spells, SpellsItems, SpellsProgram, SpellsIn, def_head}
 use Rattle.vt_syntax.specs.Spelling as spell
 use Rattle.vt_scope.specs.declared.fault.ScopeFault.{ScopeFault}
 use Rattle.vt_scope.specs.declared.fault.ScopeFault.TheVariants.{Unbound, TooManyDimensions, Memory}

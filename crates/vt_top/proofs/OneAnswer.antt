@@ -20,7 +20,8 @@ use Rattle.vt_type.specs.Text.{text_of}
 use Rattle.vt_type.proofs.ConstantTable.{core_is_table}
 use Rattle.vt_syntax.specs.declared.program.Program.{Program}
 use Rattle.vt_syntax.specs.declared.core_program.CoreProgram.{CoreProgram}
-use Rattle.vt_syntax.specs.Spelling.{SpellsIn, word_at}
+use Rattle.vt_lex.specs.Spans.{word_at}
+use Rattle.vt_syntax.specs.Spelling.{SpellsIn}
 use Rattle.vt_parse.specs.declared.fault.ParseFault.{ParseFault}
 use Rattle.vt_parse.specs.declared.fault.ParseFault.TheVariants as parse
 use Rattle.vt_parse.specs.Answer.{IsParsed}

@@ -8,7 +8,7 @@ use Rattle.vt_lex.specs.Lexing.{AreTokensOf, IsFaultOf}
 use Rattle.vt_lex.specs.Places.{IsPlace}
 use Rattle.vt_syntax.specs.declared.program.Program.{Program}
 use Rattle.vt_syntax.specs.declared.core_program.CoreProgram.{CoreProgram}
-use Rattle.vt_syntax.specs.Spelling.{word_at}
+use Rattle.vt_lex.specs.Spans.{word_at}
 use Rattle.vt_parse.specs.Answer.{IsUnexpected, IsTooDeep}
 use Rattle.vt_scope.specs.declared.fault.ScopeFault.TheVariants as scope
 use Rattle.vt_report.specs.declared.refusal.Refusal.{Refusal}

@@ -2,7 +2,7 @@
 ghost use Rattle.std.specs.Prelude.{◌≡◌, ◌≤◌, length, IfOk};
 ghost use Rattle.vt_lex.specs.Places.{IsPlace};
 ghost use Rattle.vt_lex.specs.Spans.{IsSpanIn, IsPlaceIn};
-ghost use Rattle.vt_syntax.specs.Spelling.{word_at};
+ghost use Rattle.vt_lex.specs.Spans.{word_at};
 
 use std::alloc::{AllocError, Global};
 use vt_lex::{LineCol, Span, Word, line_col};

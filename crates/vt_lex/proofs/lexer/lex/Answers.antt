@@ -30,6 +30,10 @@ returns-clause-spans c = IfOk-weaker c.tokens_of.result _ _ (λ tokens lexes.
     let spans = spans_of _ _ tokens.items (read (goal.at.returns-clause-spans c).After-deref) lexes in
     record { inside = spans.inside; ordered = spans.ordered }) c.tokens_of.ensures.tokens
 
+pub returns-clause-nonempty : goal.returns-clause-nonempty
+returns-clause-nonempty c = IfOk-weaker c.tokens_of.result _ _ (λ tokens lexes.
+    (spans_of _ _ tokens.items (read (goal.at.returns-clause-nonempty c).After-deref) lexes).nonempty) c.tokens_of.ensures.tokens
+
 pub returns-clause-dimensions : goal.returns-clause-dimensions
 returns-clause-dimensions c = IfOk-weaker c.tokens_of.result _ _ (λ tokens lexes.
     (spans_of _ _ tokens.items (read (goal.at.returns-clause-dimensions c).After-deref) lexes).dimensions) c.tokens_of.ensures.tokens

@@ -1,8 +1,8 @@
-use Rattle.std.proofs.Common.{◌≡◌, slice_index}
+use Rattle.std.proofs.Common.{◌≡◌}
 use Rattle.std.proofs.lemmas.List.Elements.{All-get_or}
 use Rattle.vt_lex.specs.declared.token.Token.{Token}
 use Rattle.vt_lex.specs.declared.token.TokenKind.TheVariants.{Number, Dim}
-use Rattle.vt_lex.specs.Spans.{IsSpanIn}
+use Rattle.vt_lex.specs.Spans.{IsSpanIn, BeginsWithAt}
 use Rattle.vt_parse.proofs.Counting.{few-program}
 use Rattle.vt_parse.proofs.ParsedLemmas.{reached-first, reached-next, reached-all, stop-unexpected, stop-deep, an-end, end-unexpected}
 use Rattle.vt_parse.proofs.parsing.parse.Goals as goal
@@ -23,7 +23,7 @@ advance-requires-clause-span c =
 
 pub advance-requires-clause-sign : goal.advance-requires-clause-sign
 advance-requires-clause-sign c =
-    All-get_or (λ (t : Token). t.kind ≡ Dim → slice_index c.args.text.now t.span.start ≡ 64) c.args.tokens.now c.loop-index.index nothing c.loop-index-test.true c.requires.dimensions
+    All-get_or (λ (t : Token). t.kind ≡ Dim → BeginsWithAt c.args.text.now t.span) c.args.tokens.now c.loop-index.index nothing c.loop-index-test.true c.requires.dimensions
 
 pub returns-in-Unexpected-clause-parsed : goal.returns-in-Unexpected-clause-parsed
 returns-in-Unexpected-clause-parsed c =

@@ -1,7 +1,7 @@
 use Rattle.std.proofs.Common.{◌∙◌}
 use Rattle.vt_syntax.proofs.CoreSeen.{fun_seen, app_seen, let_seen, let_rec_seen, choice_seen}
-use Rattle.vt_infer.proofs.GreatestLemmas.{greatest-fun, greatest-app, greatest-let, greatest-let_rec, greatest-choice}
-use Rattle.vt_infer.proofs.last_node.+last_node.Goals as goal
+use Rattle.vt_syntax.proofs.GreatestLemmas.{greatest-fun, greatest-app, greatest-let, greatest-let_rec, greatest-choice}
+use Rattle.vt_syntax.proofs.greatest.+last_node.Goals as goal
 
 pub returns-in-Fun : goal.returns-in-Fun
 returns-in-Fun t c =

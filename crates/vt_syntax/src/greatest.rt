@@ -1,14 +1,12 @@
 //! The greatest number of a node.
 ghost use Rattle.std.specs.Prelude.{◌≡◌, ◌⊎◌, ◌≤◌};
-ghost use Rattle.vt_syntax.specs.Checking.{numbers_of};
-ghost use Rattle.vt_infer.specs.Inferred.{IsGreatest};
-ghost use Rattle.vt_infer.specs.Parts.{IsGreater};
+ghost use Rattle.vt_syntax.specs.Checking.{numbers_of, IsGreater, IsGreatest};
 
+use crate::{Core, Form};
 use vt_dec::NodeId;
-use vt_syntax::{Core, Form};
 
 /// The greatest number of a node of an expression, with all alternatives of its choices.
-pub(crate) fn last_node(core: &Core) -> NodeId
+pub fn last_node(core: &Core) -> NodeId
     ensures { IsGreatest result (numbers_of core.now) }
 {
     let node = core.node;

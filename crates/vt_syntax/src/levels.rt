@@ -1,9 +1,8 @@
-//! How tightly operators and application join, and what may follow them.
+//! How tightly operators and application join.
 ghost use Rattle.std.specs.Prelude.{◌≡◌};
-ghost use Rattle.vt_syntax.specs.Infixes.{level, left_level, right_level};
-ghost use Rattle.vt_parse.specs.Frames.{infix_of};
+ghost use Rattle.vt_syntax.specs.Infixes.{infix_of, level, left_level, right_level};
 
-use vt_syntax::Op;
+use crate::Op;
 
 const APPLICATION: u8 = 8;
 

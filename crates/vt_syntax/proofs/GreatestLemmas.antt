@@ -5,9 +5,7 @@ use Rattle.vt_lex.specs.declared.span.Span.{Span}
 use Rattle.vt_syntax.specs.declared.core_expr.Core.{Core}
 use Rattle.vt_syntax.specs.declared.core_expr.Form.{Form}
 use Rattle.vt_syntax.specs.CoreTrees.{fun_form, app_form, let_form, let_rec_form, choice_form}
-use Rattle.vt_syntax.specs.Checking.{numbers, numbers_of}
-use Rattle.vt_infer.specs.Inferred.{IsGreatest}
-use Rattle.vt_infer.specs.Parts.{IsGreater}
+use Rattle.vt_syntax.specs.Checking.{numbers, numbers_of, IsGreater, IsGreatest}
 
 -- The greatest number of two lists.
 
