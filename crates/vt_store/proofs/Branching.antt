@@ -5,7 +5,7 @@ use Rattle.vt_dec.specs.Decisions.{Region, Takes, MustTake, IsSideOf}
 use Rattle.vt_store.specs.Branches.{Ways, PassesChoice, Branches}
 
 -- no decision takes both sides
-both_sides : (decision : List Side) (dim : ℕ) → Takes decision dim Left → Takes decision dim Right → ⊥
+pub both_sides : (decision : List Side) (dim : ℕ) → Takes decision dim Left → Takes decision dim Right → ⊥
 both_sides decision dim l r = let e = sym l ∙ r in cc
 
 -- the same two decisions, in another diagram

@@ -8,6 +8,7 @@ use Rattle.vt_dec.specs.declared.side.Side.{Side}
 use Rattle.vt_dec.specs.declared.side.Side.TheVariants.{Left, Right}
 use Rattle.vt_dec.specs.declared.side.Space.TheVariants.{All as AllOf}
 use Rattle.vt_dec.specs.Decisions.{IsIn, Takes}
+use Rattle.vt_dec.proofs.Slices.{slice_get-set_same}
 use Rattle.vt_type.specs.declared.plain.Plain.{Plain}
 use Rattle.vt_store.specs.Ends.{CellEnd, Free, EachCell, IsAcyclic, AreArities, mapped_end}
 use Rattle.vt_store.specs.Solutions.{Solves}
@@ -22,7 +23,6 @@ use Rattle.vt_store.proofs.Widening.{types-same}
 use Rattle.vt_store.proofs.Representing.{end_here}
 use Rattle.vt_store.proofs.OneSided.{IsOneSided, IsAcyclic-one_sided, carried-one_sided, brought-one_sided}
 use Rattle.vt_store.proofs.SideLemmas.{end_in-on_side, EachCell-named_on, IsOrdered-on_side, HasCells-on_side}
-use Rattle.vt_store.proofs.Slices.{slice_get-set_same}
 use Rattle.vt_store.proofs.StoreSteps.{IsStore-arities}
 
 -- A store in which one dimension was looked at, and the types that its cells take.

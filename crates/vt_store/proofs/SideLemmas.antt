@@ -5,13 +5,13 @@ use Rattle.std.proofs.lemmas.List.Elements.{All-nil, All-cons, All-head, All-tai
 use Rattle.vt_dec.specs.declared.side.Side.{Side}
 use Rattle.vt_dec.specs.declared.side.Side.TheVariants.{Left, Right}
 use Rattle.vt_dec.specs.Decisions.{Takes}
+use Rattle.vt_dec.proofs.Slices.{slice_get-set_same, slice_get-set_other}
 use Rattle.vt_type.specs.Variational.{by_side}
 use Rattle.vt_store.specs.Ends.{EachCell}
 use Rattle.vt_store.specs.declared.diagram.Diagram.{Diagram, Open, Link, Con, Choice}
 use Rattle.vt_store.specs.Diagrams.{choice, end_in, IsOrdered, HasCells}
 use Rattle.vt_store.specs.Narrowing.{of_side, on_side, named_on}
 use Rattle.vt_store.proofs.DiagramShapes.{diagram_here, IsOrdered-earlier}
-use Rattle.vt_store.proofs.Slices.{slice_get-set_same, slice_get-set_other}
 
 -- A diagram on one side of a dimension.
 

@@ -8,6 +8,8 @@ use Rattle.vt_dec.specs.declared.side.Side.TheVariants.{Left, Right}
 use Rattle.vt_dec.specs.declared.side.Space.{Space}
 use Rattle.vt_dec.specs.declared.side.Space.TheVariants.{All as AllOf, AtMost}
 use Rattle.vt_dec.specs.Decisions.{Region, Agrees, Admits, IsIn, rights}
+use Rattle.vt_dec.proofs.Admitting.{Admits-or}
+use Rattle.vt_dec.proofs.Slices.{slice_get-set_same, slice_get-set_other}
 use Rattle.vt_type.specs.Variational.{by_side}
 use Rattle.vt_store.specs.Ends.{CellEnd, Free, Same, EachCell, HasArity, IsAcyclic, AreArities, Reaches}
 use Rattle.vt_store.specs.Writes.{IsOf, IsWrite}
@@ -17,8 +19,8 @@ use Rattle.vt_store.specs.Branches.{IsLeastBranch}
 use Rattle.vt_store.specs.Stores.{Cells, end_of, ends_at, cell_count, IsStore, Adds, IsBound, ways_of, IsCellBranch, IsOneEnd}
 use Rattle.vt_store.proofs.Cells.{All-each}
 use Rattle.vt_store.proofs.Acyclic.{IsAcyclic-push, IsAcyclic-bound, IsAcyclic-same}
-use Rattle.vt_store.proofs.Writing.{write-admitted, write-others, le_or_lt}
-use Rattle.vt_store.proofs.Slices.{slice_get-before, slice_get-behind, slice_get-set_same, slice_get-set_other}
+use Rattle.vt_store.proofs.Writing.{write-admitted, write-others}
+use Rattle.vt_store.proofs.Slices.{slice_get-before, slice_get-behind}
 
 -- a diagram names its cells at each decision
 pub HasCells-ends : (count : ℕ) (diagram : Diagram) (decision : List Side) → HasCells count diagram → HasArity (end_in decision diagram) × EachCell (λ cell. cell < count) (end_in decision diagram)
@@ -90,36 +92,6 @@ module _ (N : ℕ) (old new : Cells) (diagram : Diagram) (pushed : new.cells ≡
   }
 
 -- ---- a cell that is bound
-
-Agrees-or : (sides : List (Option Side)) (decision : List Side) → Agrees sides decision ⊎ (Agrees sides decision → ⊥)
-Agrees-or [] [] = inl tt
-Agrees-or [] (side ∷ decision) = inr (λ h. h)
-Agrees-or (own ∷ sides) [] = inr (λ h. h)
-Agrees-or (None ∷ sides) (side ∷ decision) = Agrees-or sides decision
-Agrees-or (Some own ∷ sides) (side ∷ decision) = by (alike own side) (Agrees-or sides decision)
-  where
-    alike : (one other : Side) → (one ≡ other) ⊎ (one ≡ other → ⊥)
-    alike Left Left = inl refl
-    alike Right Right = inl refl
-    alike Left Right = inr (λ e. cc)
-    alike Right Left = inr (λ e. cc)
-
-    by : (own ≡ side) ⊎ (own ≡ side → ⊥) → Agrees sides decision ⊎ (Agrees sides decision → ⊥) → ((own ≡ side) × Agrees sides decision) ⊎ ((own ≡ side) × Agrees sides decision → ⊥)
-    by (inl e) (inl a) = inl (e, a)
-    by (inl e) (inr a) = inr (λ h. a h.1)
-    by (inr e) a = inr (λ h. e h.0)
-
-IsIn-or : (space : Space) (decision : List Side) → IsIn space decision ⊎ (IsIn space decision → ⊥)
-IsIn-or AllOf decision = inl tt
-IsIn-or (AtMost k) decision = elim (le_or_lt (rights decision) k) [ inl h ↦ inl h | inr h ↦ inr (λ g. omega arith) ]
-
-Admits-or : (region : Region) (decision : List Side) → Admits region decision ⊎ (Admits region decision → ⊥)
-Admits-or region decision = by (Agrees-or region.sides decision) (IsIn-or region.space decision)
-  where
-    by : Agrees region.sides decision ⊎ (Agrees region.sides decision → ⊥) → IsIn region.space decision ⊎ (IsIn region.space decision → ⊥) → Admits region decision ⊎ (Admits region decision → ⊥)
-    by (inl a) (inl i) = inl (record { agrees = a; in_space = i })
-    by (inl a) (inr i) = inr (λ h. i h.in_space)
-    by (inr a) i = inr (λ h. a h.agrees)
 
 module _ (N : ℕ) (region : Region) (cell to : ℕ) (old new : Cells) (before after : Diagram)
     (was : slice_get old.cells cell ≡ Some before) (changed : new.cells ≡ set old.cells cell after) (same : new.space ≡ old.space)

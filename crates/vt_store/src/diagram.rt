@@ -44,7 +44,7 @@ impl Diagram {
         Ok(Diagram::Choice(dim, left, right))
     }
 
-    /// A choice between two sides, or one of them where both are links to one cell.
+    // A choice between two sides, or one of them where both are links to one cell.
     fn joined(alloc: Global, dim: Dim, left: Diagram, right: Diagram) -> Result<Diagram, AllocError>
         ensures { IfOk result (IsJoined dim left right) }
     {
@@ -54,7 +54,7 @@ impl Diagram {
         Diagram::choice(alloc, dim, left, right)
     }
 
-    /// Both are links to one cell.
+    // Both are links to one cell.
     fn is_link_of(&self, other: &Diagram) -> bool
         ensures { IsTrue result → AreOneLeaf self.now other.now }
     {
@@ -256,8 +256,8 @@ impl Diagram {
         }
     }
 
-    /// A choice for each dimension that the context decides from `from` on and before `below`, the
-    /// dimension of the root: what is written on its side, and this diagram on the other.
+    // A choice for each dimension that the context decides from `from` on and before `below`, the
+    // dimension of the root: what is written on its side, and this diagram on the other.
     fn guarded<const N: usize>(
         &self,
         alloc: Global,
@@ -325,7 +325,7 @@ impl Diagram {
     }
 }
 
-/// Feeds a hasher with a head, apart from all other heads and from what else `Diagram::feed` begins with.
+// Feeds a hasher with a head, apart from all other heads and from what else `Diagram::feed` begins with.
 fn feed_head(head: Head, state: &mut FoldHasher) {
     match head {
         Head::Int => state.write_u8(3),

@@ -28,7 +28,7 @@ impl Fates {
         Ok(Fates::Choice(dim, left, right))
     }
 
-    /// A choice between two sides, or one of them where both are one fate.
+    // A choice between two sides, or one of them where both are one fate.
     fn joined(alloc: Global, dim: Dim, left: Fates, right: Fates) -> Result<Fates, AllocError>
         ensures { IfOk result (AreJoined dim left right) }
     {
@@ -38,7 +38,7 @@ impl Fates {
         Fates::choice(alloc, dim, left, right)
     }
 
-    /// Both are one fate.
+    // Both are one fate.
     fn is_fate_of(&self, other: &Fates) -> bool
         ensures { IsTrue result → AreOneFate self.now other.now }
     {
@@ -51,7 +51,7 @@ impl Fates {
         }
     }
 
-    /// The same fates again.
+    // The same fates again.
     fn copied(&self, alloc: Global) -> Result<Fates, AllocError>
         ensures { IfOk result (λ fates. fates ≡ self.now) }
     {
@@ -109,8 +109,8 @@ impl Fates {
         }
     }
 
-    /// A choice for each dimension that the context decides from `from` on and before `below`, the
-    /// dimension of the root: what is written on its side, and these fates on the other.
+    // A choice for each dimension that the context decides from `from` on and before `below`, the
+    // dimension of the root: what is written on its side, and these fates on the other.
     fn guarded<const N: usize>(
         &self,
         alloc: Global,
@@ -179,7 +179,7 @@ impl Fates {
     }
 }
 
-/// The same fate twice.
+// The same fate twice.
 fn are_one(one: Fate, other: Fate) -> bool
     ensures { IsTrue result → one ≡ other }
 {
@@ -195,7 +195,7 @@ fn are_one(one: Fate, other: Fate) -> bool
     }
 }
 
-/// What is alive is dead with the node, and what is dead stays.
+// What is alive is dead with the node, and what is dead stays.
 fn killed(fate: Fate, node: NodeId) -> Fate
     ensures { result ≡ killed node fate }
 {

@@ -14,7 +14,7 @@ use std::collections::BTreeSet;
 use vt_dec::{Dim, Side};
 
 impl Diagram {
-    /// Adds the cells that it names where a decision takes the side of the dimension.
+    // Adds the cells that it names where a decision takes the side of the dimension.
     fn push_named(&self, dim: Dim, side: Side, cells: &mut Vec<CellId>) -> Result<(), AllocError>
         ensures { OnOk result (cells.new.items ≡ cells.old.items ++ named_on dim side self.now) }
     {
@@ -36,7 +36,7 @@ impl Diagram {
         }
     }
 
-    /// The diagram as it is on the side of the dimension, whatever side of it a decision takes.
+    // The diagram as it is on the side of the dimension, whatever side of it a decision takes.
     fn on_side(&self, alloc: Global, dim: Dim, side: Side) -> Result<Diagram, AllocError>
         ensures { IfOk result (λ diagram. diagram ≡ on_side dim side self.now) }
     {
@@ -57,7 +57,7 @@ impl Diagram {
         }
     }
 
-    /// The diagram of a cell to which others lead on these sides of the dimension alone.
+    // The diagram of a cell to which others lead on these sides of the dimension alone.
     fn on_sides(
         &self,
         alloc: Global,
@@ -75,7 +75,7 @@ impl Diagram {
         }
     }
 
-    /// It is open at every decision.
+    // It is open at every decision.
     fn is_open(&self) -> bool
         ensures { IsTrue result → self.now ≡ Open }
     {
@@ -85,7 +85,7 @@ impl Diagram {
         }
     }
 
-    /// It is open at some decision.
+    // It is open at some decision.
     fn has_open(&self) -> bool {
         match self {
             Diagram::Open => true,
@@ -95,7 +95,7 @@ impl Diagram {
         }
     }
 
-    /// Adds the dimensions of its choices.
+    // Adds the dimensions of its choices.
     fn add_dims(&self, dims: &mut BTreeSet<Dim>) -> Result<(), AllocError> {
         if let Diagram::Choice(dim, left, right) = self {
             dims.insert(*dim)?;
@@ -119,8 +119,8 @@ pub(crate) fn dims(alloc: Global, diagrams: &[Diagram]) -> Result<BTreeSet<Dim>,
     Ok(dims)
 }
 
-/// Some cells and all to which they lead where a decision takes the side of the dimension. They come
-/// in the order in which a walk down meets them, which links do not change.
+// Some cells and all to which they lead where a decision takes the side of the dimension. They come
+// in the order in which a walk down meets them, which links do not change.
 fn reached(
     alloc: Global,
     diagrams: &[Diagram],
@@ -205,7 +205,7 @@ pub(crate) fn pairs(
     paired(alloc, diagrams, &ones, &others)
 }
 
-/// The open cells among some, in order, that are not among others.
+// The open cells among some, in order, that are not among others.
 fn open_alone(
     alloc: Global,
     diagrams: &[Diagram],
@@ -224,7 +224,7 @@ fn open_alone(
     Ok(found)
 }
 
-/// A name for each cell: for each of the second ones the first one at its place, and else itself.
+// A name for each cell: for each of the second ones the first one at its place, and else itself.
 fn paired(
     alloc: Global,
     diagrams: &[Diagram],

@@ -52,7 +52,7 @@ pub(crate) fn straight(alloc: Global, diagrams: &[Diagram]) -> Result<Vec<CellId
     Ok(names)
 }
 
-/// The cell at which the links of a cell end.
+// The cell at which the links of a cell end.
 fn last(diagrams: &[Diagram], cell: CellId) -> CellId
     requires diagrams { All (HasCells (length diagrams.now)) diagrams.now }
     requires cell { cell < length diagrams.now }
@@ -79,8 +79,8 @@ pub(crate) fn each_itself(alloc: Global, diagrams: &[Diagram]) -> Result<Vec<Cel
     Ok(names)
 }
 
-/// The cell that may stand for one more: where it is a link, what stands for its target; or an equal
-/// cell behind it; or itself. Among cells with one fingerprint the last that was looked at is tried.
+// The cell that may stand for one more: where it is a link, what stands for its target; or an equal
+// cell behind it; or itself. Among cells with one fingerprint the last that was looked at is tried.
 fn found_for(
     diagrams: &[Diagram],
     names: &[CellId],
@@ -109,7 +109,7 @@ fn found_for(
     Ok(cell)
 }
 
-/// A number that alike diagrams share. Nothing rests on it but speed.
+// A number that alike diagrams share. Nothing rests on it but speed.
 fn fingerprint(diagram: &Diagram, names: &[CellId]) -> u64 {
     let mut state = FoldHasher::default();
     diagram.feed(names, &mut state);

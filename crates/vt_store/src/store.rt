@@ -70,7 +70,7 @@ impl<const N: usize> Part<N> {
         Ok(part)
     }
 
-    /// The same for one dimension.
+    // The same for one dimension.
     fn narrowed_at(&self, alloc: Global, dim: Dim) -> Result<Part<N>, AllocError>
         requires inside { AreIn self.now }
         requires space { IsWhole self.now.store.space }
@@ -282,7 +282,7 @@ impl<const N: usize> Store<N> {
         self.named(alloc, names)
     }
 
-    /// The same cells, where each gives way to its representative.
+    // The same cells, where each gives way to its representative.
     fn named(&self, alloc: Global, names: Vec<CellId>) -> Result<Shared<N>, AllocError>
         requires { AreNames self.now.cells names.items }
         ensures { IfOk result (IsShared N self.now) }
@@ -299,8 +299,8 @@ impl<const N: usize> Store<N> {
         })
     }
 
-    /// The cells as they are on the sides of the dimension on which some cells and the root lead to them,
-    /// and a name for each.
+    // The cells as they are on the sides of the dimension on which some cells and the root lead to them,
+    // and a name for each.
     fn cut(
         &self,
         alloc: Global,
@@ -372,7 +372,7 @@ impl<const N: usize> Store<N> {
     }
 }
 
-/// Adds a diagram, in the room that is spare if there is any.
+// Adds a diagram, in the room that is spare if there is any.
 fn push(cells: &mut Vec<Diagram>, diagram: Diagram) -> Result<(), AllocError>
     ensures ok { OnOk result ((cells.new.items ≡ cells.old.items ++ diagram ∷ []) × (vec_len cells.new ≡ vec_len cells.old + 1)) }
     ensures spare { vec_len cells.old < vec_capacity cells.old → IsOk result × (vec_capacity cells.new ≡ vec_capacity cells.old) }
@@ -385,7 +385,7 @@ fn push(cells: &mut Vec<Diagram>, diagram: Diagram) -> Result<(), AllocError>
     Ok(())
 }
 
-/// The diagrams with every cell's number raised.
+// The diagrams with every cell's number raised.
 fn raised_copies(alloc: Global, diagrams: &[Diagram], by: usize) -> Result<Vec<Diagram>, AllocError>
     requires { All (HasRoom by) diagrams.now }
     ensures { IfOk result (λ copies. copies.items ≡ map (raised by) diagrams.now) }
@@ -397,7 +397,7 @@ fn raised_copies(alloc: Global, diagrams: &[Diagram], by: usize) -> Result<Vec<D
     Ok(copies)
 }
 
-/// The diagrams of the cells that were found, and of all to which they lead, which are found on the way.
+// The diagrams of the cells that were found, and of all to which they lead, which are found on the way.
 fn taken(alloc: Global, diagrams: &[Diagram], found: &mut Found) -> Result<Vec<Diagram>, AllocError>
     requires cells { All (HasCells (length diagrams.now)) diagrams.now }
     requires within { All (λ cell. cell < length diagrams.now) found.old }
