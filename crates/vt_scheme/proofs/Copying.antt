@@ -3,6 +3,7 @@ use Rattle.std.specs.List.{All}
 use Rattle.std.proofs.lemmas.Bool.{lt-ltb, le-ltb, cases_lt}
 use Rattle.std.proofs.lemmas.List.{length-map}
 use Rattle.std.proofs.lemmas.List.Elements.{All-head, All-tail, All-map, All-weaker}
+use Rattle.std.proofs.lemmas.Simd.{map-map}
 use Rattle.vt_dec.specs.declared.side.Side.{Side}
 use Rattle.vt_type.specs.declared.plain.Plain.{Plain, Con}
 use Rattle.vt_type.specs.Plain.{IsWellFormed}
@@ -10,10 +11,11 @@ use Rattle.vt_store.specs.Ends.{CellEnd, Free, Same, Made, EachCell, EndsWithin,
 use Rattle.vt_store.specs.Solutions.{plain_kids, Fits, Solves}
 use Rattle.vt_store.specs.Stores.{Cells, cell_count, ends_at, raised_end, IsAppended}
 use Rattle.vt_store.specs.Writes.{IsOf}
+use Rattle.vt_store.proofs.Cells.{EndsWithin-named}
 use Rattle.vt_scheme.specs.declared.scheme.Scheme.{Scheme}
 use Rattle.vt_scheme.specs.declared.scheme.Copied.{Copied}
 use Rattle.vt_scheme.specs.Schemes.{HasTypes, AreCells, Extends, IsInstanceOf}
-use Rattle.vt_scheme.proofs.Freezing.{map_both, map_moved}
+use Rattle.vt_scheme.proofs.Freezing.{map_moved}
 
 -- Cells that come after others: solutions of both are one solution.
 
@@ -38,24 +40,7 @@ Fits-raised s t by count type (Made head kids) same closed h = h ∙ ap (λ type
 Fits-lowered : (t : ℕ → Plain) (by : ℕ) (type : Plain) (end : CellEnd) → Fits t type (raised_end by end) → Fits (λ cell. t (cell + by)) type end
 Fits-lowered t by type Free h = tt
 Fits-lowered t by type (Same cell) h = h
-Fits-lowered t by type (Made head kids) h = h ∙ ap (λ types. Con head (plain_kids types)) (map_both t (λ kid. kid + by) kids)
-
--- an end names cells
-closed_at : (n : ℕ) (e : ℕ → CellEnd) (most cell : ℕ) → EndsWithin n e most cell → EachCell (λ other. other < n) (e cell)
-closed_at n e zero cell h = absurd h
-closed_at n e (suc most) cell h = by (e cell) h.1
-  where
-    within : (other : ℕ) → EndsWithin n e most other → other < n
-    within other g = first most other g
-      where
-        first : (most other : ℕ) → EndsWithin n e most other → other < n
-        first zero other g = absurd g
-        first (suc most) other g = g.0
-
-    by : (end : CellEnd) → EachCell (EndsWithin n e most) end → EachCell (λ other. other < n) end
-    by Free g = tt
-    by (Same other) g = within other g
-    by (Made head kids) g = All-weaker (EndsWithin n e most) (λ other. other < n) within kids g
+Fits-lowered t by type (Made head kids) h = h ∙ ap (λ types. Con head (plain_kids types)) (map-map t (λ kid. kid + by) kids)
 
 -- ---- two solutions, one after the other
 
@@ -110,13 +95,13 @@ module _ {N : ℕ} (scheme : Scheme N) (old new : Cells) (is : IsAppended old sc
       fits-old cell lt =
           subst (Fits (joined by s t) (joined by s t cell)) (sym (is.kept decision cell lt))
           (subst (λ type. Fits (joined by s t) type (ends_at old decision cell)) (sym (joined-old by s t cell lt))
-          (Fits-agree s (joined by s t) by (s cell) (ends_at old decision cell) (joined-old by s t) (closed_at by (ends_at old decision) by cell (acyclic decision of cell lt)) (first.fits cell lt)))
+          (Fits-agree s (joined by s t) by (s cell) (ends_at old decision cell) (joined-old by s t) (EndsWithin-named by (ends_at old decision) by cell (acyclic decision of cell lt)) (first.fits cell lt)))
 
       fits-new : (cell : ℕ) → cell < more → Fits (joined by s t) (joined by s t (cell + by)) (ends_at new decision (cell + by))
       fits-new cell lt =
           subst (Fits (joined by s t) (joined by s t (cell + by))) (sym (end_added decision cell lt))
           (subst (λ type. Fits (joined by s t) type (raised_end by (ends_at scheme.cells decision cell))) (sym (joined-new by s t cell))
-          (Fits-raised t (joined by s t) by more (t cell) (ends_at scheme.cells decision cell) (λ own within. joined-new by s t own) (closed_at more (ends_at scheme.cells decision) more cell (other decision of cell lt)) (second.fits cell lt)))
+          (Fits-raised t (joined by s t) by more (t cell) (ends_at scheme.cells decision cell) (λ own within. joined-new by s t own) (EndsWithin-named more (ends_at scheme.cells decision) more cell (other decision of cell lt)) (second.fits cell lt)))
 
       joined-fits : (cell : ℕ) → cell < cell_count new → Fits (joined by s t) (joined by s t cell) (ends_at new decision cell)
       joined-fits cell within = of_cell (cases_lt cell by)
@@ -135,7 +120,7 @@ module _ {N : ℕ} (scheme : Scheme N) (old new : Cells) (is : IsAppended old sc
     takes decision s solves = record {
       s = λ cell. s (cell + by);
       solves = Solves-copy decision s solves;
-      cells_are = sym (map_both s (λ cell. cell + by) scheme.monos) ∙ ap (map s) (sym monos);
+      cells_are = sym (map-map s (λ cell. cell + by) scheme.monos) ∙ ap (map s) (sym monos);
       root_is = ap s (sym root);
     }
 

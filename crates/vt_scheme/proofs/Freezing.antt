@@ -2,6 +2,7 @@ use Rattle.std.proofs.Common.{◌≡◌, ℕ, ◌<◌, List, [], ◌∷◌, leng
 use Rattle.std.specs.List.{All}
 use Rattle.std.proofs.lemmas.List.{length-map}
 use Rattle.std.proofs.lemmas.List.Elements.{All-head, All-tail}
+use Rattle.std.proofs.lemmas.Simd.{map-map}
 use Rattle.vt_dec.specs.declared.side.Side.{Side}
 use Rattle.vt_type.specs.declared.plain.Plain.{Plain}
 use Rattle.vt_store.specs.declared.store.Part.{Part}
@@ -13,10 +14,6 @@ use Rattle.vt_store.specs.Writes.{IsOf}
 use Rattle.vt_scheme.specs.Schemes.{HasTypes, IsFrozen}
 
 -- A part of a store allows what the store gives to the cells that it was made of.
-
-pub map_both : (s : ℕ → Plain) (by : ℕ → ℕ) (cells : List ℕ) → map s (map by cells) ≡ map (λ cell. s (by cell)) cells
-map_both s by [] = refl
-map_both s by (cell ∷ cells) = ap (λ types. s (by cell) ∷ types) (map_both s by cells)
 
 -- types of cells under other numbers
 pub map_moved : (s t : ℕ → Plain) (by : ℕ → ℕ) (count : ℕ) (cells : List ℕ) → ((cell : ℕ) → cell < count → t (by cell) ≡ s cell) → All (λ cell. cell < count) cells → map t (map by cells) ≡ map s cells
@@ -47,7 +44,7 @@ module _ {N : ℕ} (store : Cells) (monos : List ℕ) (root : ℕ) (part : Part 
     narrower has = record {
       s = λ cell. has.s (is.origin cell);
       solves = (alike_at decision of).narrows has.s has.solves;
-      cells_are = sym (map_both has.s is.origin part.cells) ∙ ap (map has.s) is.cells_are ∙ has.cells_are;
+      cells_are = sym (map-map has.s is.origin part.cells) ∙ ap (map has.s) is.cells_are ∙ has.cells_are;
       root_is = ap has.s is.root_is ∙ has.root_is;
     }
 

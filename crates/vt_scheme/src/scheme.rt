@@ -49,7 +49,7 @@ pub fn freeze<const N: usize>(
     }
 }
 
-/// The part of a store to which the monos and the root lead.
+// The part of a store to which the monos and the root lead.
 fn taken<const N: usize>(
     alloc: Global,
     store: &Store<N>,
@@ -60,9 +60,9 @@ fn taken<const N: usize>(
     requires root { root < cell_count store.now }
     ensures { IfOk result (IsFrozen N store.now monos.now root) }
 {
-    // What these two ensure is what makes a solution of the part one of the store.
+    // These make a solution of the part one of the store.
     solutions_of_parts();
-    let _space = store.space();
+    store.acyclic();
     let part = store.part(alloc, monos, root)?;
     Ok(Scheme {
         cells: part.store,
@@ -71,7 +71,7 @@ fn taken<const N: usize>(
     })
 }
 
-/// The scheme with equal cells made one, as far as one look at all cells finds them.
+// The scheme with equal cells made one, as far as one look at all cells finds them.
 fn merged<const N: usize>(alloc: Global, scheme: &Scheme<N>) -> Result<Scheme<N>, AllocError>
     requires { AreCells scheme.now }
     ensures { IfOk result (IsFrozen N scheme.now.cells scheme.now.monos scheme.now.root) }
@@ -81,7 +81,7 @@ fn merged<const N: usize>(alloc: Global, scheme: &Scheme<N>) -> Result<Scheme<N>
     taken(alloc, &shared.cells, shared.monos.as_slice(), shared.root)
 }
 
-/// The scheme with each cell as it is where the monos and the root lead to it.
+// The scheme with each cell as it is where the monos and the root lead to it.
 fn narrowed<const N: usize>(alloc: Global, scheme: Scheme<N>) -> Result<Scheme<N>, AllocError>
     requires { AreCells scheme }
     ensures { IfOk result (IsFrozen N scheme.entry.cells scheme.entry.monos scheme.entry.root) }
@@ -99,7 +99,7 @@ fn narrowed<const N: usize>(alloc: Global, scheme: Scheme<N>) -> Result<Scheme<N
     })
 }
 
-/// The scheme with the representatives of its cells in their place.
+// The scheme with the representatives of its cells in their place.
 fn represented<const N: usize>(
     alloc: Global,
     scheme: &Scheme<N>,
@@ -130,10 +130,9 @@ pub fn instance<const N: usize>(
     ensures ok { IfOk result (λ copied. IsInstanceOf scheme.now copied store.old store.new) }
     ensures err { OnErr result (IsUnchanged store.old store.new) }
 {
-    // What these ensure of the two stores is that ends name cells of the same store, and that the
-    // sum of their cells fits.
-    let _space = store.space();
-    let _cells = scheme.cells.space();
+    // In both stores ends name cells of the same store, and the sum of their cells fits.
+    store.acyclic();
+    scheme.cells.acyclic();
     let _count = scheme.cells.count();
     let by = store.count();
     let monos = scheme.monos.raised(store.allocator(), by)?;

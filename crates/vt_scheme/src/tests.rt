@@ -4,7 +4,7 @@ use vt_dec::{Decision, Dim, Space};
 use vt_store::{CellId, Look, Store};
 use vt_type::Head;
 
-/// The copy is a function from its one mono to itself, and this mono is open and not the old one.
+// The copy is a function from its one mono to itself, and this mono is open and not the old one.
 fn is_apart(store: &Store<1>, copied: &Copied, old: CellId) -> bool {
     let left = Decision::all_left();
     let mono = match copied.monos.as_slice().first() {

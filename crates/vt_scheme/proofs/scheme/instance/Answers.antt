@@ -13,6 +13,6 @@ returns-clause-ok g c =
     c.in_ok-monos.ensures ∙ ap (λ (by : ℕ). map (λ cell. cell + by) c.scheme.inside.0.1.0) c.count-by.ensures.count
     in
     rw (← c.scheme.view_is)
-    (IsInstanceOf-appended _ c.args.store.now c.append.new.self c.in_ok-append.ensures.ok.1 cells c.space-space.ensures.acyclic
-    (λ decision of. c.space-cells.ensures.acyclic decision (subst (λ (space : Space). IsOf g.row.N space decision) (sym spaces) of))
+    (IsInstanceOf-appended _ c.args.store.now c.append.new.self c.in_ok-append.ensures.ok.1 cells c.acyclic.ensures.acyclic
+    (λ decision of. c.acyclic-2.ensures.acyclic decision (subst (λ (space : Space). IsOf g.row.N space decision) (sym spaces) of))
     _ monos (ap (λ (by : ℕ). c.scheme.inside.0.1.1.0.0 + by) c.count-by.ensures.count))
