@@ -42,6 +42,7 @@ impl<const N: usize> Decision<N> {
         }
     }
 
+    /// The side of one dimension.
     pub fn side(&self, dim: Dim) -> Side
         requires { dim < 64 * N }
         ensures { slice_get self.now dim ≡ Some result }
@@ -64,6 +65,7 @@ impl<const N: usize> Decision<N> {
         }
     }
 
+    /// The space has the decision.
     pub fn in_space(&self, space: Space) -> bool
         ensures { IsTrue result ↔ IsIn space self.now }
     {

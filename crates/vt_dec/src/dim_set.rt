@@ -9,8 +9,8 @@ use std::marker::Model;
 ///
 /// Contracts see the list that says for each dimension whether it is in the set.
 #[derive(Clone, Copy, Debug)]
-pub struct DimSet<const N: usize> {
-    /// One bit a dimension, the lowest first.
+pub(crate) struct DimSet<const N: usize> {
+    // One bit a dimension, the lowest first.
     words: [u64; N],
 }
 
@@ -33,20 +33,20 @@ impl<const N: usize> Model for DimSet<N> {
 }
 
 impl<const N: usize> DimSet<N> {
-    pub fn empty() -> DimSet<N>
+    pub(crate) fn empty() -> DimSet<N>
         ensures { result ≡ replicate (64 * N) false }
     {
         DimSet { words: [0; N] }
     }
 
-    pub fn contains(&self, dim: Dim) -> bool
+    pub(crate) fn contains(&self, dim: Dim) -> bool
         requires { dim < 64 * N }
         ensures { slice_get self.now dim ≡ Some result }
     {
         (self.words[word_of(dim)] >> place_of(dim)) & 1 == 1
     }
 
-    pub fn insert(&mut self, dim: Dim)
+    pub(crate) fn insert(&mut self, dim: Dim)
         requires { dim < 64 * N }
         ensures inserted { self.new ≡ slice_set self.old dim true }
         ensures low { dim < 2 ^ 32 }
@@ -54,7 +54,7 @@ impl<const N: usize> DimSet<N> {
         self.words[word_of(dim)] |= 1 << place_of(dim);
     }
 
-    pub fn remove(&mut self, dim: Dim)
+    pub(crate) fn remove(&mut self, dim: Dim)
         requires { dim < 64 * N }
         ensures { self.new ≡ slice_set self.old dim false }
     {
@@ -62,7 +62,7 @@ impl<const N: usize> DimSet<N> {
     }
 
     /// Looks no further than the word in which the bound is passed.
-    pub fn has_at_most(&self, bound: u32) -> bool
+    pub(crate) fn has_at_most(&self, bound: u32) -> bool
         ensures { IsTrue result ↔ (count_by (λ bit. bit) self.now ≤ bound) }
     {
         let mut left = bound;
@@ -77,7 +77,7 @@ impl<const N: usize> DimSet<N> {
     }
 
     /// What of `whole` is in this set is `part`.
-    pub fn cuts(&self, whole: &DimSet<N>, part: &DimSet<N>) -> bool
+    pub(crate) fn cuts(&self, whole: &DimSet<N>, part: &DimSet<N>) -> bool
         ensures sized { length whole.now ≡ length self.now }
         ensures cut { IsTrue result ↔ (zip2 (λ one other. one && other) whole.now self.now ≡ part.now) }
     {
@@ -89,7 +89,7 @@ impl<const N: usize> DimSet<N> {
         true
     }
 
-    pub fn union(&self, other: &DimSet<N>) -> DimSet<N>
+    pub(crate) fn union(&self, other: &DimSet<N>) -> DimSet<N>
         ensures { result ≡ zip2 (λ one other. one || other) self.now other.now }
     {
         let mut words = self.words;
@@ -100,7 +100,7 @@ impl<const N: usize> DimSet<N> {
     }
 
     /// The first dimension of the set from `from` on.
-    pub fn next(&self, from: Dim) -> Option<Dim>
+    pub(crate) fn next(&self, from: Dim) -> Option<Dim>
         requires low { (dim : ℕ) → slice_get self.now dim ≡ Some true → dim < 2 ^ 32 }
         ensures { IsNext self.now from result }
     {
@@ -116,7 +116,7 @@ impl<const N: usize> DimSet<N> {
     }
 }
 
-/// Which word has the bit of the dimension.
+// Which word has the bit of the dimension.
 fn word_of(dim: Dim) -> usize
     ensures word { result ≡ dim / 64 }
     ensures low { dim < 2 ^ 32 }
@@ -124,7 +124,7 @@ fn word_of(dim: Dim) -> usize
     (dim.0 / 64) as usize
 }
 
-/// Which bit of the word it is.
+// Which bit of the word it is.
 fn place_of(dim: Dim) -> u32
     ensures { result ≡ dim % 64 }
 {

@@ -1,4 +1,5 @@
 use Rattle.std.proofs.Common.{◌≡◌, ℕ, zero, suc, ◌+◌, ◌<◌, Bool, true, false, not, ◌&&◌, ◌||◌, List, [], ◌∷◌, ◌++◌, map, length, take, get_or, slice_get, Option, Some, None, refl, sym, ap, subst, ◌∙◌, true≢false, ◌≤◌, lit≤, rules, arith}
+use Rattle.std.proofs.Math.Bool.{or-true}
 use Rattle.std.proofs.lemmas.Slice.Eq.{bytes_eq-Decides}
 use Rattle.std.proofs.lemmas.List.{map-append, take_more}
 use Rattle.std.specs.Str.{bytes_eq}
@@ -52,17 +53,13 @@ each_once [] = true
 each_once (None ∷ names) = each_once names
 each_once (Some name ∷ names) = not (written name names) && each_once names
 
-or_true : (b c : Bool) → c ≡ true → (b || c) ≡ true
-or_true true c e = refl
-or_true false c e = e
-
 written_at : (names : List (Option (List ℕ))) (id : ℕ) (name : List ℕ) → slice_get names id ≡ Some (Some name) → written name names ≡ true
 written_at [] id name e = absurd (none-some (Some name) e)
 written_at (None ∷ names) zero name e = absurd (none-some name (same_Some None (Some name) e))
 written_at (None ∷ names) (suc id) name e = written_at names id name e
 written_at (Some own ∷ names) zero name e =
     ap (λ b. b || written name names) ((bytes_eq-Decides name own).1 (sym (same_Some own name (same_Some (Some own) (Some name) e))))
-written_at (Some own ∷ names) (suc id) name e = or_true (bytes_eq name own) (written name names) (written_at names id name e)
+written_at (Some own ∷ names) (suc id) name e = ap (λ b. bytes_eq name own || b) (written_at names id name e) ∙ or-true (bytes_eq name own)
 
 first_once : (own : List ℕ) (names : List (Option (List ℕ))) → each_once (Some own ∷ names) ≡ true → (written own names ≡ true → ⊥) × (each_once names ≡ true)
 first_once own names h = by (written own names) h

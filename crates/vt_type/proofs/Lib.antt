@@ -5,6 +5,7 @@ pub mod HasErrors
 pub mod Naming
 pub mod Firsts
 pub mod Substituting
+pub mod Roots
 pub mod Renaming
 pub mod ConstantTable
 pub mod PartsFit

@@ -205,7 +205,8 @@ mutual
   kids_substituted-Var Nil = refl
   kids_substituted-Var (kids_of kid kids) = λ j. kids_of (substituted-Var kid j) (kids_substituted-Var kids j)
 
-IsInstance-trans : (one mid other : Plain) → IsInstance one mid → IsInstance mid other → IsInstance one other
+-- an instance of an instance
+pub IsInstance-trans : (one mid other : Plain) → IsInstance one mid → IsInstance mid other → IsInstance one other
 IsInstance-trans one mid other f g = record {
   images = λ name. substituted f.images (g.images name);
   well_formed = λ name. substituted-well_formed f.images f.well_formed (g.images name) (g.well_formed name);

@@ -9,11 +9,11 @@ use Rattle.vt_type.specs.declared.plain.Plain.{Plain}
 use Rattle.vt_type.specs.declared.plain.Plain as plain
 use Rattle.vt_type.specs.declared.plain.PlainKids.{PlainKids}
 use Rattle.vt_type.specs.Plain.{kids_of, arity, kid_count, IsWellFormed, AreWellFormed}
-use Rattle.vt_type.specs.Variational.{vkids_of, choice, by_side, vkid_count, selected, kids_selected, root_at, IsWellFormedV, AreWellFormedV}
+use Rattle.vt_type.specs.Variational.{vkids_of, choice, by_side, vkid_count, selected, kids_selected, root_at, IsWellFormedV, AreWellFormedV, most_dimensions}
 use Rattle.vt_type.proofs.Makers.{vmore_here, choice_here}
 
 -- the parts of a well-formed choice
-pub choice_parts : (type : VType) (dim : ℕ) (left right : VType) → type ≡ Choice dim left right → IsWellFormedV type → (dim < 64) × IsWellFormedV left × IsWellFormedV right
+pub choice_parts : (type : VType) (dim : ℕ) (left right : VType) → type ≡ Choice dim left right → IsWellFormedV type → (dim < most_dimensions) × IsWellFormedV left × IsWellFormedV right
 choice_parts type dim left right is h = subst IsWellFormedV (is ∙ choice_here dim left right) h
 
 -- the parts of well-formed children

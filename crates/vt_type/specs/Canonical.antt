@@ -16,9 +16,13 @@ abbrev mutual
   kids_occurrences at n Nil = []
   kids_occurrences at n (kids_of kid kids) = occurrences (at ++ n ∷ []) kid ++ kids_occurrences at (n + 1) kids
 
--- the variable named by the path with which its name stands first in a list, or by its own name
+-- the path with which a name stands first in a list, or the name itself
+abbrev pub first_name : List (List ℕ × List ℕ) → List ℕ → List ℕ
+first_name places name = unwrap_or (lookup (bytes_eq name) places) name
+
+-- the variable named so
 abbrev pub first_of : List (List ℕ × List ℕ) → List ℕ → Plain
-first_of places name = Var (unwrap_or (lookup (bytes_eq name) places) name)
+first_of places name = Var (first_name places name)
 
 -- each name is found with the same path in both lists, or in neither
 abbrev pub FindsAs : List (List ℕ × List ℕ) → List (List ℕ × List ℕ) → Type 0
@@ -26,7 +30,7 @@ FindsAs one other = (name : List ℕ) → lookup (bytes_eq name) one ≡ lookup 
 
 -- where a variable stands first; its own name where it stands nowhere
 abbrev pub first_path : Plain → List ℕ → List ℕ
-first_path type name = unwrap_or (lookup (bytes_eq name) (occurrences [] type)) name
+first_path type name = first_name (occurrences [] type) name
 
 -- the type with each variable named by the path of its first occurrence
 abbrev pub canonical : Plain → Plain

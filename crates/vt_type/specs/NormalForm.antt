@@ -9,7 +9,7 @@ use Rattle.vt_type.specs.declared.plain.PlainKids as kids
 use Rattle.vt_type.specs.declared.vtype.VType.{VType, Var, Con, Err}
 use Rattle.vt_type.specs.declared.vtype.VKids.{VKids, Nil}
 use Rattle.vt_type.specs.Plain.{kids_of, kid_count}
-use Rattle.vt_type.specs.Variational.{vkids_of, choice, vkid_count, selected}
+use Rattle.vt_type.specs.Variational.{vkids_of, choice, vkid_count, selected, most_dimensions}
 
 -- A map gives each decision its outcome: a plain type, or None for the error.
 abbrev pub Map : Type 1
@@ -19,9 +19,9 @@ Map = List Side → Option Plain → Type 0
 abbrev pub Decisions : Type 1
 Decisions = List Side → Type 0
 
--- all decisions over 64 dimensions
+-- all decisions over the dimensions of a file
 abbrev pub Total : Decisions
-Total decision = length decision ≡ 64
+Total decision = length decision ≡ most_dimensions
 
 -- those of a set that take a side
 abbrev pub Taking : Decisions → ℕ → Side → Decisions

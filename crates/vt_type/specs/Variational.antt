@@ -27,12 +27,16 @@ abbrev pub vkid_count : VKids → ℕ
 vkid_count Nil = 0
 vkid_count (vkids_of kid kids) = 1 + vkid_count kids
 
--- each head has as many children as its arity, and each dimension is below 64
+-- how many dimensions a file may have
+abbrev pub most_dimensions : ℕ
+most_dimensions = 64
+
+-- each head has as many children as its arity, and each dimension is one of a file's
 abbrev mutual
   pub IsWellFormedV : VType → Type 0
   IsWellFormedV (Var name) = Unit {0}
   IsWellFormedV (Con top kids) = (vkid_count kids ≡ arity top) × AreWellFormedV kids
-  IsWellFormedV (choice dim left right) = (dim < 64) × IsWellFormedV left × IsWellFormedV right
+  IsWellFormedV (choice dim left right) = (dim < most_dimensions) × IsWellFormedV left × IsWellFormedV right
   IsWellFormedV Err = Unit {0}
 
   pub AreWellFormedV : VKids → Type 0

@@ -3,8 +3,7 @@ ghost use Rattle.std.specs.Prelude.{◌≡◌, ℕ, ◌+◌, ◌<◌, List, ◌+
 ghost use Rattle.vt_type.specs.Plain.{IsWellFormed, AreWellFormed, kid_count, substituted, kids_substituted};
 ghost use Rattle.vt_type.specs.Canonical.{canonical, occurrences, kids_occurrences, FindsAs, first_of};
 
-use crate::places::Places;
-use crate::{Plain, PlainKids};
+use crate::{FirstPaths, Plain, PlainKids};
 use std::alloc::{AllocError, Global};
 
 /// The canonical form of a type: two types are equal up to the names of variables exactly where
@@ -15,33 +14,34 @@ pub fn canon(alloc: Global, plain: &Plain) -> Result<Plain, AllocError>
     ensures well_formed { IfOk result IsWellFormed }
 {
     let mut way = Vec::new(alloc);
-    let mut places = Places::new(alloc);
-    renamed(plain, alloc, &mut way, &mut places)
+    let mut paths = FirstPaths::new(alloc);
+    renamed(plain, alloc, &mut way, &mut paths)
 }
 
-// The type at `way`, with each variable named by where it was met first.
+// The type at `way`, with each variable named by where it was met first. The tree comes first, since
+// the recursion is measured by it.
 #[cycle(canonical)]
 fn renamed(
     plain: &Plain,
     alloc: Global,
     way: &mut Vec<u8>,
-    places: &mut Places,
+    paths: &mut FirstPaths,
 ) -> Result<Plain, AllocError>
     requires { IsWellFormed plain.now }
     ensures way { OnOk result (way.new.items ≡ way.old.items) }
-    ensures met { OnOk result (FindsAs places.new (places.old ++ occurrences way.old.items plain.now)) }
-    ensures renamed { IfOk result (λ t. (later : List (List ℕ × List ℕ)) → t ≡ substituted (first_of (places.old ++ (occurrences way.old.items plain.now ++ later))) plain.now) }
+    ensures met { OnOk result (FindsAs paths.new (paths.old ++ occurrences way.old.items plain.now)) }
+    ensures renamed { IfOk result (λ t. (later : List (List ℕ × List ℕ)) → t ≡ substituted (first_of (paths.old ++ (occurrences way.old.items plain.now ++ later))) plain.now) }
 {
     match plain {
         Plain::Var(name) => {
-            let first = places.meet(alloc, name.as_slice(), way.as_slice())?;
+            let first = paths.meet(alloc, name.as_slice(), way.as_slice())?;
             Ok(Plain::Var(first))
         }
         Plain::Con(head, kids) => {
             let head = *head;
             // Its arity is what bounds the numbers of its children.
             let _arity = head.arity();
-            let kids = renamed_kids(kids, alloc, 0, way, places)?;
+            let kids = renamed_kids(kids, alloc, 0, way, paths)?;
             Ok(Plain::Con(head, kids))
         }
     }
@@ -54,21 +54,21 @@ fn renamed_kids(
     alloc: Global,
     number: u8,
     way: &mut Vec<u8>,
-    places: &mut Places,
+    paths: &mut FirstPaths,
 ) -> Result<PlainKids, AllocError>
     requires well_formed { AreWellFormed kids.now }
     requires numbers { number + kid_count kids.now < 256 }
     ensures way { OnOk result (way.new.items ≡ way.old.items) }
-    ensures met { OnOk result (FindsAs places.new (places.old ++ kids_occurrences way.old.items number kids.now)) }
-    ensures renamed { IfOk result (λ ts. (later : List (List ℕ × List ℕ)) → ts ≡ kids_substituted (first_of (places.old ++ (kids_occurrences way.old.items number kids.now ++ later))) kids.now) }
+    ensures met { OnOk result (FindsAs paths.new (paths.old ++ kids_occurrences way.old.items number kids.now)) }
+    ensures renamed { IfOk result (λ ts. (later : List (List ℕ × List ℕ)) → ts ≡ kids_substituted (first_of (paths.old ++ (kids_occurrences way.old.items number kids.now ++ later))) kids.now) }
 {
     match kids {
         PlainKids::Nil => Ok(PlainKids::Nil),
         PlainKids::More(first, others) => {
             way.push(number)?;
-            let first = renamed(first.get(), alloc, way, places)?;
+            let first = renamed(first.get(), alloc, way, paths)?;
             way.pop();
-            let others = renamed_kids(others.get(), alloc, number + 1, way, places)?;
+            let others = renamed_kids(others.get(), alloc, number + 1, way, paths)?;
             PlainKids::more(alloc, first, others)
         }
     }

@@ -2,7 +2,7 @@ use crate::Plain;
 
 /// A change that cures a program: one leaf is given another type, and the program then has a type.
 /// The variables of the two types are those of the canonical form of their pair.
-#[derive(Debug, Drop)]
+#[derive(Drop)]
 pub struct ChangeLine {
     /// The number of the leaf.
     pub leaf: u32,

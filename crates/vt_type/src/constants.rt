@@ -56,7 +56,7 @@ impl ConstId {
     pub const SPLIT: ConstId = ConstId(17);
 }
 
-#[derive(Debug, Drop)]
+#[derive(Drop)]
 struct Entry {
     name: Option<String>,
     closed: Plain,
@@ -74,7 +74,7 @@ impl Entry {
 }
 
 /// The table of constants.
-#[derive(Debug, Drop)]
+#[derive(Drop)]
 pub struct Constants {
     entries: Vec<Entry>,
 }

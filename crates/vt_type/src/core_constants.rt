@@ -9,10 +9,10 @@ use crate::{Path, Plain};
 use std::alloc::{AllocError, Global};
 
 /// How many constants the language has.
-pub const CORE_COUNT: u32 = 18;
+pub(crate) const CORE_COUNT: u32 = 18;
 
 /// The name by which a program writes the constant, if it has one.
-pub fn core_name(number: u32) -> Option<&'static str>
+pub(crate) fn core_name(number: u32) -> Option<&'static str>
     requires { number < CORE_COUNT }
     ensures { slice_get (map (λ c. c.name) core_constants) number ≡ Some (option_copied result) }
 {
@@ -26,7 +26,7 @@ pub fn core_name(number: u32) -> Option<&'static str>
 }
 
 /// The type of the constant, up to the names of its variables.
-pub fn core_type(alloc: Global, number: u32) -> Result<Plain, AllocError>
+pub(crate) fn core_type(alloc: Global, number: u32) -> Result<Plain, AllocError>
     requires { number < CORE_COUNT }
     ensures closed { IfOk result (λ t. HasClosed core_constants number (canonical t)) }
     ensures well_formed { IfOk result IsWellFormed }
@@ -140,14 +140,21 @@ fn condition(alloc: Global) -> Result<Plain, AllocError>
     Plain::fun(alloc, Plain::bool(), choice)
 }
 
+// The type of what stands for an item before a rest.
+fn longer(alloc: Global) -> Result<Plain, AllocError>
+    ensures { IfOk result (λ t. t ≡ (a ⇒ list a ⇒ b)) }
+{
+    let item = variable(alloc, 0)?;
+    let rest = items(alloc)?;
+    let to = variable(alloc, 1)?;
+    binary(alloc, item, rest, to)
+}
+
 // The type of the cases of a list: what stands for the empty one, and for an item before a rest.
 fn split(alloc: Global) -> Result<Plain, AllocError>
     ensures { IfOk result (λ t. t ≡ (list a ⇒ b ⇒ (a ⇒ list a ⇒ b) ⇒ b)) }
 {
-    let item = variable(alloc, 0)?;
-    let rest = items(alloc)?;
-    let longer = variable(alloc, 1)?;
-    let longer = binary(alloc, item, rest, longer)?;
+    let longer = longer(alloc)?;
     let empty = variable(alloc, 1)?;
     let either = variable(alloc, 1)?;
     let cases = binary(alloc, empty, longer, either)?;

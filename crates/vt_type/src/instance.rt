@@ -25,12 +25,12 @@ fn fits(general: &Plain, special: &Plain, whole: &Plain) -> bool
 {
     match general {
         Plain::Var(name) => match whole.part(name.as_slice()) {
-            Some(image) => image.is(special),
+            Some(image) => image.is_same(special),
             None => false,
         },
         Plain::Con(head, kids) => match special {
             Plain::Var(_) => false,
-            Plain::Con(own, parts) => head.is(*own) && all_fit(kids, parts, whole),
+            Plain::Con(own, parts) => head.is_same(*own) && all_fit(kids, parts, whole),
         },
     }
 }

@@ -9,7 +9,7 @@ use std::alloc::{AllocError, Global};
 
 /// A type without choices.
 #[cycle(plain)]
-#[derive(Debug, Drop)]
+#[derive(Drop)]
 pub enum Plain {
     Var(Path),
     Con(Head, PlainKids),
@@ -17,7 +17,7 @@ pub enum Plain {
 
 /// The children of a constructor, the first one first.
 #[cycle(plain)]
-#[derive(Debug, Drop)]
+#[derive(Drop)]
 pub enum PlainKids {
     Nil,
     More(Boxed<Plain>, Boxed<PlainKids>),

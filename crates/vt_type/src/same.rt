@@ -4,7 +4,7 @@ ghost use Rattle.std.specs.Prelude.{◌≡◌, ◌↔◌, IsTrue};
 use crate::{Head, Plain, PlainKids};
 
 impl Head {
-    pub fn is(self, other: Head) -> bool
+    pub fn is_same(self, other: Head) -> bool
         ensures { IsTrue result ↔ (self ≡ other) }
     {
         self == other
@@ -14,7 +14,7 @@ impl Head {
 impl Plain {
     /// Whether the types are equal, names of variables included.
     #[cycle(same)]
-    pub fn is(&self, other: &Plain) -> bool
+    pub fn is_same(&self, other: &Plain) -> bool
         ensures { IsTrue result ↔ (self.now ≡ other.now) }
     {
         match self {
@@ -24,14 +24,14 @@ impl Plain {
             },
             Plain::Con(head, kids) => match other {
                 Plain::Var(_) => false,
-                Plain::Con(own, others) => head.is(*own) && are(kids, others),
+                Plain::Con(own, others) => head.is_same(*own) && are_same(kids, others),
             },
         }
     }
 }
 
 #[cycle(same)]
-fn are(kids: &PlainKids, others: &PlainKids) -> bool
+fn are_same(kids: &PlainKids, others: &PlainKids) -> bool
     ensures { IsTrue result ↔ (kids.now ≡ others.now) }
 {
     match kids {
@@ -41,7 +41,8 @@ fn are(kids: &PlainKids, others: &PlainKids) -> bool
         },
         PlainKids::More(first, rest) => match others {
             PlainKids::Nil => false,
-            PlainKids::More(own, more) => first.get().is(own.get()) && are(rest.get(), more.get()),
+            PlainKids::More(own, more) => first.get().is_same(own.get())
+                && are_same(rest.get(), more.get()),
         },
     }
 }

@@ -36,6 +36,8 @@ impl VType {
     }
 }
 
+// What the decision takes, unless the error stands in it. The tree comes first, since the recursion is
+// measured by it.
 #[cycle(select)]
 fn plain_at(
     vtype: &VType,

@@ -189,7 +189,7 @@ fn records_are_made(rt: HostRuntime) -> Result<(), Fail> {
         wanted: Plain::bool(),
         result: Plain::int(),
     };
-    assert!(rt; !line.wanted.is(&line.result));
+    assert!(rt; !line.wanted.is_same(&line.result));
     crate::laws::same_up_to_renaming();
     crate::laws::canonical_again();
     Ok(())
@@ -228,7 +228,7 @@ fn a_type_is_selected(rt: HostRuntime) -> Result<(), Fail> {
     let want = Plain::fun(alloc, variable(alloc, 0)?, Plain::int())?;
     let vtype = function_to_a_choice(alloc)?;
     match vtype.select(alloc, &decision)? {
-        Selected::Found(plain) => assert!(rt; plain.is(&want)),
+        Selected::Found(plain) => assert!(rt; plain.is_same(&want)),
         Selected::Untyped => assert!(rt; false, "it has a type"),
     }
     assert!(rt; matches!(vtype.at(&decision), VType::Con(_, _)));

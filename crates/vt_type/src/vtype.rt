@@ -8,7 +8,7 @@ use vt_dec::Dim;
 
 /// A type that may differ from decision to decision, and may be the error at some.
 #[cycle(vtype)]
-#[derive(Debug, Drop)]
+#[derive(Drop)]
 pub enum VType {
     Var(Path),
     Con(Head, VKids),
@@ -18,14 +18,14 @@ pub enum VType {
 
 /// The children of a constructor, the first one first.
 #[cycle(vtype)]
-#[derive(Debug, Drop)]
+#[derive(Drop)]
 pub enum VKids {
     Nil,
     More(Boxed<VType>, Boxed<VKids>),
 }
 
 /// What a variational type is at one decision.
-#[derive(Debug, Drop)]
+#[derive(Drop)]
 pub enum Selected {
     Found(Plain),
     /// The error stands in the selected type.

@@ -11,11 +11,11 @@ use std::marker::Model;
 
 /// The names of variables, each with the path at which it was met first.
 #[derive(Drop)]
-pub struct Places {
+pub struct FirstPaths {
     paths: IndexMap<Vec<u8>, Path>,
 }
 
-impl Model for Places {
+impl Model for FirstPaths {
     ghost use Rattle.std.specs.Prelude.{List, ℕ, map};
 
     ghost Value = { List (List ℕ × List ℕ) };
@@ -23,11 +23,11 @@ impl Model for Places {
     ghost view = { λ p. map (λ e. (e.0.items, e.1)) p.paths.entries };
 }
 
-impl Places {
-    pub fn new(alloc: Global) -> Places
+impl FirstPaths {
+    pub fn new(alloc: Global) -> FirstPaths
         ensures { result ≡ [] }
     {
-        Places {
+        FirstPaths {
             paths: IndexMap::new(alloc),
         }
     }

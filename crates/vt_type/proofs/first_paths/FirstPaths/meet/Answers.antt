@@ -3,7 +3,7 @@ use Rattle.std.proofs.lemmas.Result.{IfOk-weaker}
 use Rattle.std.specs.Map.{lookup}
 use Rattle.std.specs.Str.{bytes_eq}
 use Rattle.vt_type.proofs.Firsts.{lookup-last, lookup-met, FindsAs-met, entries-new, lookup-entry_of}
-use Rattle.vt_type.proofs.places.Places.meet.Goals as goal
+use Rattle.vt_type.proofs.first_paths.FirstPaths.meet.Goals as goal
 
 pub returns-in-Some-clause-first : goal.returns-in-Some-clause-first
 returns-in-Some-clause-first c =
