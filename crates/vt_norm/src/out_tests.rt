@@ -145,7 +145,7 @@ fn pair_shares_a_name(alloc: Global) -> Result<bool, OutFault> {
     let pair = read_pair(alloc, &store, open, list, &Decision::all_left(), 2)?;
     let name = Path::new(Vec::from_slice(alloc, &[0])?);
     let wanted = Plain::list(alloc, Plain::Var(name))?;
-    Ok(pair.result.is(&wanted))
+    Ok(pair.result.is_same(&wanted))
 }
 
 #[test]

@@ -23,7 +23,7 @@ use vt_type::{Path, Plain, PlainKids};
 
 /// Two types in which one name stands for one variable: each is named by where it stands first in the
 /// pair of the two.
-#[derive(Debug, Drop)]
+#[derive(Drop)]
 pub struct PlainPair {
     pub wanted: Plain,
     pub result: Plain,

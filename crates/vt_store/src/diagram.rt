@@ -151,7 +151,7 @@ impl Diagram {
                 _ => false,
             },
             Diagram::Con(head, kids) => match other {
-                Diagram::Con(own, others) => head.is(*own) && kids.is_alike(others, names),
+                Diagram::Con(own, others) => head.is_same(*own) && kids.is_alike(others, names),
                 _ => false,
             },
             Diagram::Choice(dim, left, right) => match other {

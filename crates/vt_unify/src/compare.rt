@@ -81,7 +81,7 @@ fn compare_roots<'a, const N: usize>(
     let Some((own, rights)) = made(store, within, other) else {
         return compare_open(store, within, other, one);
     };
-    if head.is(own) {
+    if head.is_same(own) {
         Ok(Comparison::Parts(lefts, rights))
     } else {
         Ok(Comparison::Differ)

@@ -7,7 +7,7 @@ use vt_type::Head;
 
 fn is_int(look: Look<'_>) -> bool {
     match look {
-        Look::Con(head, kids) => head.is(Head::Int) && kids.is_empty(),
+        Look::Con(head, kids) => head.is_same(Head::Int) && kids.is_empty(),
         Look::Open(_) => false,
     }
 }
