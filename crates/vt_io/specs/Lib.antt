@@ -4,3 +4,4 @@ pub mod Written
 pub mod Memory
 pub mod MemorySink
 pub mod Kept
+pub mod Host

@@ -1,6 +1,9 @@
-ghost use Rattle.std.specs.Prelude.{◌≡◌, ◌^◌, ◌≤◌, ◌↔◌, None, IfOk};
+ghost use Rattle.std.specs.Prelude.{◌≡◌, ◌^◌, ◌≤◌, ◌↔◌, List, ℕ, None, IfOk, IsErrOf, IsSome, OnErr, OnOk};
 ghost use Rattle.std.specs.IoError.{error_kind};
+ghost use Rattle.vt_io.specs.Counts.{Rose, Advances};
 ghost use Rattle.vt_io.specs.Fetched.{IsFetched};
+ghost use Rattle.vt_io.specs.Host.{not_told, one_count};
+ghost use Rattle.vt_io.specs.Memory.{raised};
 
 use crate::{Bytes, FetchFault, Fetched, Files};
 use std::alloc::Global;
@@ -9,7 +12,7 @@ use std::marker::Model;
 use std::{fs, io, rt};
 
 /// The files of the real system. It tells nothing of what they hold. One count of failures serves
-/// every name.
+/// every name, and each `Err` raises it, also where memory ran out.
 #[derive(Drop)]
 pub struct HostFiles<'a, R> {
     runtime: &'a R,
@@ -34,17 +37,32 @@ impl<'a, R: rt::Files> HostFiles<'a, R> {
 }
 
 impl<'a, R: rt::Files> Files for HostFiles<'a, R> {
-    ghost held = { λ _ _. None };
+    ghost held = { not_told };
 
-    ghost faults = { λ count _. count };
+    ghost faults = { one_count };
 
     ghost fetches = { λ _. None };
 
     ghost calm = { λ _. ⊥ };
 
-    fn fetch(&mut self, alloc: Global, name: &str, limit: usize) -> Result<Fetched, FetchFault> {
+    fn fetch(&mut self, alloc: Global, name: &str, limit: usize) -> Result<Fetched, FetchFault>
+        requires { limit ≤ 2 ^ 31 }
+        ensures fetched { IfOk result (IsFetched (not_told self.old name.now) limit) }
+        ensures failed { IsErrOf result FetchFault.Failed → Rose (one_count self.old name.now) (one_count self.new name.now) }
+
+        ensures same { (other : List ℕ) → not_told self.new other ≡ not_told self.old other }
+        ensures never_falls { (other : List ℕ) → one_count self.old other ≤ one_count self.new other }
+        ensures counted { Advances None None }
+
+        ensures stays_calm { ⊥ → ⊥ }
+        ensures no_fault { ⊥ → (other : List ℕ) → IsSome (not_told self.old other) → one_count self.new other ≡ one_count self.old other }
+
+        // Each `Err` is counted, and nothing else.
+        ensures ok { OnOk result (self.new ≡ self.old) }
+        ensures err { OnErr result (self.new ≡ raised self.old) }
+    {
         let fetched = read_file(self.runtime, alloc, name, limit);
-        if let Err(FetchFault::Failed) = &fetched {
+        if fetched.is_err() {
             self.faults = self.faults.saturating_add(1);
         }
         fetched

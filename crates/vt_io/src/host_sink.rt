@@ -1,12 +1,16 @@
-ghost use Rattle.std.specs.Prelude.{◌≡◌, None, OnOk};
+ghost use Rattle.std.specs.Prelude.{◌≡◌, ◌≤◌, None, IfSome, OnErr, OnOk, length};
 ghost use Rattle.std.specs.Io.KnownBytes.{Appends};
+ghost use Rattle.vt_io.specs.Counts.{Rose, Advances};
+ghost use Rattle.vt_io.specs.Host.{never_sure};
+ghost use Rattle.vt_io.specs.Memory.{raised};
+ghost use Rattle.vt_io.specs.Written.{Grows, GrowsByFront};
 
 use crate::{Sink, SinkFailed};
 use std::io;
 use std::io::{Print, Write};
 use std::marker::Model;
 
-/// Standard output. It tells nothing of what was written.
+/// Standard output. It tells nothing of what was written. Each `Err` raises its count of failures.
 #[derive(Drop)]
 pub struct HostSink<'a, R> {
     runtime: &'a R,
@@ -37,9 +41,21 @@ impl<'a, R: Print> Sink for HostSink<'a, R> {
 
     ghost puts = { λ _. None };
 
-    ghost sure = { λ _. None };
+    ghost sure = { never_sure };
 
-    fn put(&mut self, bytes: &[u8]) -> Result<(), SinkFailed> {
+    fn put(&mut self, bytes: &[u8]) -> Result<(), SinkFailed>
+        ensures written { OnOk result (Grows None None bytes.now) }
+        ensures cut_off { OnErr result (GrowsByFront None None bytes.now) }
+        ensures failed { OnErr result (Rose self.old self.new) }
+
+        ensures never_falls { self.old ≤ self.new }
+        ensures counted { Advances None None }
+        ensures sure { IfSome (never_sure self.old) (λ room. length bytes.now ≤ room → Rose self.old self.new → ⊥) }
+
+        // Each `Err` is counted, and nothing else.
+        ensures ok { OnOk result (self.new ≡ self.old) }
+        ensures err { OnErr result (self.new ≡ raised self.old) }
+    {
         let written = write_whole(&mut io::writer(self.runtime), bytes);
         if written.is_err() {
             self.faults = self.faults.saturating_add(1);
