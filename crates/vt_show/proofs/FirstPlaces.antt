@@ -5,9 +5,8 @@ use Rattle.std.proofs.lemmas.List.{append-nil}
 use Rattle.vt_type.specs.declared.vtype.VType.{VType}
 use Rattle.vt_type.specs.declared.vtype.VKids.{VKids}
 use Rattle.vt_type.specs.Variational.{vkids_of, choice}
-use Rattle.vt_type.specs.Canonical.{FindsAs}
+use Rattle.vt_type.specs.Canonical.{FindsAs, first_name}
 use Rattle.vt_type.proofs.Firsts.{FindsAs-append}
-use Rattle.vt_show.specs.Places.{first_name}
 use Rattle.vt_show.specs.Reading.{places, renamed, kids_renamed, by_first_place}
 
 -- Two parts of a type, one after the other, of which each is named by what was met up to it.

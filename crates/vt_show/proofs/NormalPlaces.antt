@@ -13,10 +13,11 @@ use Rattle.vt_type.specs.declared.plain.PlainKids as plain_kids
 use Rattle.vt_type.specs.declared.vtype.VType.{VType, Var, Con, Err}
 use Rattle.vt_type.specs.declared.vtype.VKids.{VKids, Nil}
 use Rattle.vt_type.specs.Plain.{kids_of, kid_count, IsWellFormed, AreWellFormed}
-use Rattle.vt_type.specs.Variational.{vkids_of, choice, vkid_count, by_side, IsWellFormedV, AreWellFormedV}
+use Rattle.vt_type.specs.Variational.{vkids_of, choice, vkid_count, by_side, IsWellFormedV, AreWellFormedV, most_dimensions}
 use Rattle.vt_type.specs.Canonical.{occurrences, kids_occurrences}
-use Rattle.vt_type.specs.NormalForm.{Map, Decisions, Taking, Made, Named, Wrong, root, kid_at, Kid, IsNormalForm, AreNormalForms}
+use Rattle.vt_type.specs.NormalForm.{Map, Decisions, Taking, Wrong, root, kid_at, Kid, IsNormalForm, AreNormalForms}
 use Rattle.vt_type.proofs.Firsts.{or_later, lookup-append}
+use Rattle.vt_type.proofs.Roots.{Named-outcome, Made-outcome}
 use Rattle.vt_show.specs.Reading.{places, kids_places}
 
 -- Where the variables of a normal form stand at one decision.
@@ -37,9 +38,9 @@ abbrev mutual
 abbrev pub IsFunction : Map → Type 0
 IsFunction map = (decision : List Side) (one other : Option Plain) → map decision one → map decision other → one ≡ other
 
--- each decision has 64 sides
+-- each decision has a side for each dimension
 abbrev pub AreLong : Decisions → Type 0
-AreLong set = (decision : List Side) → set decision → length decision ≡ 64
+AreLong set = (decision : List Side) → set decision → length decision ≡ most_dimensions
 
 -- a child of a function is one
 Kid-function : (map : Map) (n : ℕ) → IsFunction map → IsFunction (Kid map n)
@@ -48,27 +49,13 @@ Kid-function map n one_each decision one other (top, kids, kid, m, e, is) (top',
     let same_kids : kids ≡ kids' = cc in
     is ∙ sym e ∙ ap (λ ks. kid_at ks n) same_kids ∙ e' ∙ sym is'
 
--- the outcome that has a root
-Named-outcome : (outcome : Option Plain) (name : List ℕ) → root outcome ≡ Named name → outcome ≡ Some (plain.Var name)
-Named-outcome None name h = cc
-Named-outcome (Some (plain.Var own)) name h = cc
-Named-outcome (Some (plain.Con top kids)) name h = cc
-
-Made-outcome : (outcome : Option Plain) (top : Head) (count : ℕ) → root outcome ≡ Made top count → (kids : PlainKids) × (outcome ≡ Some (plain.Con top kids)) × (kid_count kids ≡ count)
-Made-outcome None top count h = cc
-Made-outcome (Some (plain.Var name)) top count h = cc
-Made-outcome (Some (plain.Con own kids)) top count h =
-    let same : own ≡ top = cc in
-    let counted : kid_count kids ≡ count = cc in
-    (kids, ap (λ t. Some (plain.Con t kids)) same, counted)
-
 -- a plain type is not the error
 not_wrong : (outcome : Plain) → root (Some outcome) ≡ Wrong → ⊥
 not_wrong (plain.Var name) h = cc
 not_wrong (plain.Con top kids) h = cc
 
 -- a side that a long decision takes
-side_of : (decision : List Side) (dim : ℕ) → length decision ≡ 64 → dim < 64 → (side : Side) × (slice_get decision dim ≡ Some side)
+side_of : (decision : List Side) (dim : ℕ) → length decision ≡ most_dimensions → dim < most_dimensions → (side : Side) × (slice_get decision dim ≡ Some side)
 side_of decision dim long small = elim (slice_get_cases decision dim).1 [
   | inl h ↦ (h.0, h.2)
   | inr h ↦ absurd (omega (arith, h.0, long, small))

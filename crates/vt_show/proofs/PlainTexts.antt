@@ -9,7 +9,7 @@ use Rattle.vt_type.specs.declared.vtype.VType.{VType}
 use Rattle.vt_type.specs.Variational.{vkid_count, IsWellFormedV, AreWellFormedV}
 use Rattle.vt_type.specs.Text.{variables, distinct, wrapped, shown}
 use Rattle.vt_show.specs.Conditions.{DimsBelow, KidsDimsBelow}
-use Rattle.vt_show.specs.Pairs.{of_plain, of_plain_kids, pair_text}
+use Rattle.vt_show.specs.Pairs.{of_plain, of_plain_kids, both_text, pair_text}
 
 -- Plain types, seen as variational ones.
 
@@ -63,13 +63,19 @@ shown-plain dims names level (plain.Con (Data number parameters) kids) = refl
 four_parts : (start s1 s2 s3 end a b c d : List ℕ) → start ≡ [] → s1 ≡ start ++ a → s2 ≡ s1 ++ b → s3 ≡ s2 ++ c → end ≡ s3 ++ d → end ≡ a ++ b ++ c ++ d
 four_parts start s1 s2 s3 end a b c d e0 e1 e2 e3 e4 = rw (e4, e3, e2, e1, e0) refl
 
--- the parts of the text of a pair, one after the other
-pub pair_written : (dims names : List (List ℕ)) (wanted outcome : Plain) (one other : VType) (start s1 s2 s3 end : List ℕ)
-    → one ≡ of_plain wanted → other ≡ of_plain outcome → names ≡ distinct (variables one ++ variables other) → start ≡ []
+-- the parts of the text of two types, one after the other
+pub both_written : (dims names : List (List ℕ)) (one other : VType) (start s1 s2 s3 end : List ℕ)
+    → names ≡ distinct (variables one ++ variables other) → start ≡ []
     → s1 ≡ start ++ codes "wants " → s2 ≡ s1 ++ shown dims names 0 one → s3 ≡ s2 ++ codes ", result " → end ≡ s3 ++ shown dims names 0 other
-    → end ≡ pair_text wanted outcome
-pair_written dims names wanted outcome one other start s1 s2 s3 end is are letters e0 e1 e2 e3 e4 =
-    let named = letters ∙ (λ j. distinct (variables (is j) ++ variables (are j))) in
-    let first = ap (shown dims names 0) is ∙ shown-plain dims names 0 wanted ∙ ap (λ n. shown [] n 0 (of_plain wanted)) named in
-    let second = ap (shown dims names 0) are ∙ shown-plain dims names 0 outcome ∙ ap (λ n. shown [] n 0 (of_plain outcome)) named in
-    four_parts start s1 s2 s3 end (codes "wants ") _ (codes ", result ") _ e0 e1 e2 e3 e4 ∙ (λ j. codes "wants " ++ first j ++ codes ", result " ++ second j)
+    → end ≡ both_text dims one other
+both_written dims names one other start s1 s2 s3 end letters e0 e1 e2 e3 e4 =
+    four_parts start s1 s2 s3 end (codes "wants ") _ (codes ", result ") _ e0 e1 e2 e3 e4
+    ∙ (λ j. codes "wants " ++ shown dims (letters j) 0 one ++ codes ", result " ++ shown dims (letters j) 0 other)
+
+-- plain types have the same text over all names of dimensions
+pub both_text-plain : (dims : List (List ℕ)) (wanted outcome : Plain) (one other : VType) → one ≡ of_plain wanted → other ≡ of_plain outcome
+    → both_text dims one other ≡ pair_text wanted outcome
+both_text-plain dims wanted outcome one other is are =
+    let names = distinct (variables (of_plain wanted) ++ variables (of_plain outcome)) in
+    (λ j. both_text dims (is j) (are j))
+    ∙ (λ j. codes "wants " ++ shown-plain dims names 0 wanted j ++ codes ", result " ++ shown-plain dims names 0 outcome j)

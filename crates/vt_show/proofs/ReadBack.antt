@@ -7,11 +7,11 @@ use Rattle.vt_dec.specs.declared.side.Side.TheVariants.{Left}
 use Rattle.vt_type.specs.declared.plain.Plain.{Plain}
 use Rattle.vt_type.specs.declared.plain.Plain as plain
 use Rattle.vt_type.specs.declared.vtype.VType.{VType}
-use Rattle.vt_type.specs.Canonical.{occurrences, first_path, IsCanonical}
+use Rattle.vt_type.specs.Canonical.{first_name, occurrences, first_path, IsCanonical}
+use Rattle.vt_type.specs.Variational.{most_dimensions}
 use Rattle.vt_type.specs.NormalForm.{map_of, Total, IsNormalFormOf}
 use Rattle.vt_type.specs.Text.{text_of, variables, distinct}
 use Rattle.vt_type.proofs.Renaming.{agree-substituted}
-use Rattle.vt_show.specs.Places.{first_name}
 use Rattle.vt_show.specs.Conditions.{DimsBelow, HasNoData}
 use Rattle.vt_show.specs.Reading.{places, renamed, by_first_place, IsRead}
 use Rattle.vt_show.specs.Laws.{IsCanonicalEverywhere}
@@ -33,7 +33,7 @@ module _ (type form : VType) (canonical : IsCanonicalEverywhere type) (normal : 
   one_each decision one other m m' = sym m ∙ m'
 
   some_decision : (decision : List Side) × Total decision
-  some_decision = (replicate 64 Left, length-replicate 64 Left)
+  some_decision = (replicate most_dimensions Left, length-replicate most_dimensions Left)
 
   -- a variable stands first at the path that it is named by
   first_is_name : (name path : List ℕ) → lookup (bytes_eq name) (places [] form) ≡ Some path → path ≡ name

@@ -1,7 +1,7 @@
 use Rattle.std.proofs.Common.{◌≡◌, ℕ, ◌≤◌, List, length, refl, sym, subst, ap, ◌∙◌, arith, Option, Some, None}
 use Rattle.std.proofs.lemmas.Option.{none-some, slice_get_within}
 use Rattle.vt_type.specs.declared.vtype.VType.{VType}
-use Rattle.vt_type.specs.Variational.{IsWellFormedV}
+use Rattle.vt_type.specs.Variational.{IsWellFormedV, most_dimensions}
 use Rattle.vt_type.specs.Names.{AreDistinct}
 use Rattle.vt_show.specs.Conditions.{DimsBelow}
 use Rattle.vt_show.specs.Reading.{Spells, int, bool, string, error, variable, list, parentheses, either, pair, one_atom, arrow, no_arrow, by_first_place, IsReading, LackBraces}
@@ -30,7 +30,7 @@ module _ (dims : List (List ℕ)) (distinct : AreDistinct dims) (lack : LackBrac
       ap Some (h.2 ∙ ap by_first_place (one_type dims distinct lack text h.0 k.0 h.1 k.1) ∙ sym k.2)
 
 -- what is spelled is well formed
-module _ (dims : List (List ℕ)) (few : length dims ≤ 64) where
+module _ (dims : List (List ℕ)) (few : length dims ≤ most_dimensions) where
   spelled-well_formed : (level : ℕ) (text : List ℕ) (type : VType) → Spells dims level text type → IsWellFormedV type
   spelled-well_formed _ _ _ int = (refl, tt)
   spelled-well_formed _ _ _ bool = (refl, tt)

@@ -1,7 +1,6 @@
 pub mod Reading
 pub mod Steps
 pub mod Misses
-pub mod Places
 pub mod Conditions
 pub mod Levels
 pub mod Laws

@@ -19,9 +19,13 @@ abbrev mutual
   of_plain_kids plain_kids.Nil = Nil
   of_plain_kids (kids_of kid kids) = vkids_of (of_plain kid) (of_plain_kids kids)
 
--- The text of a wanted type and the type that results, with letters over both in the order in which
--- they appear. A plain type has no dimensions.
+-- a wanted type and the type that results, over the names of the dimensions, with letters over both in
+-- the order in which they appear
+abbrev pub both_text : List (List ℕ) → VType → VType → List ℕ
+both_text dims wanted outcome =
+    let names = distinct (variables wanted ++ variables outcome) in
+    codes "wants " ++ shown dims names 0 wanted ++ codes ", result " ++ shown dims names 0 outcome
+
+-- The text of a wanted type and the type that results. A plain type has no dimensions.
 abbrev pub pair_text : Plain → Plain → List ℕ
-pair_text wanted outcome =
-    let names = distinct (variables (of_plain wanted) ++ variables (of_plain outcome)) in
-    codes "wants " ++ shown [] names 0 (of_plain wanted) ++ codes ", result " ++ shown [] names 0 (of_plain outcome)
+pair_text wanted outcome = both_text [] (of_plain wanted) (of_plain outcome)

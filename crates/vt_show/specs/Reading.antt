@@ -1,10 +1,9 @@
-use Rattle.std.specs.Prelude.{◌≡◌, ℕ, ◌+◌, List, [], ◌∷◌, ◌++◌, Option, Some, None, unwrap_or, slice_get, codes, Contains, All}
-use Rattle.std.specs.Map.{lookup}
-use Rattle.std.specs.Str.{bytes_eq}
+use Rattle.std.specs.Prelude.{◌≡◌, ℕ, ◌+◌, List, [], ◌∷◌, ◌++◌, Option, Some, None, slice_get, codes, Contains, All}
 use Rattle.vt_type.specs.declared.head.Head.TheVariants.{Int, Bool, Text, List as ListOf, Pair, Fun}
 use Rattle.vt_type.specs.declared.vtype.VType.{VType, Var, Con, Err}
 use Rattle.vt_type.specs.declared.vtype.VKids.{VKids, Nil}
 use Rattle.vt_type.specs.Variational.{vkids_of, choice}
+use Rattle.vt_type.specs.Canonical.{first_name}
 use Rattle.vt_type.specs.Text.{letter}
 
 -- Which texts spell which types, over the names of the dimensions. The level is 0 where any type may
@@ -57,7 +56,7 @@ abbrev mutual
 
 -- each variable named by the path of its first appearance
 abbrev pub by_first_place : VType → VType
-by_first_place type = renamed (λ name. unwrap_or (lookup (bytes_eq name) (places [] type)) name) type
+by_first_place type = renamed (first_name (places [] type)) type
 
 -- The text is read as this type: it spells one whose variables, named by their first places, make it.
 abbrev pub IsRead : List (List ℕ) → List ℕ → VType → Type 0

@@ -2,30 +2,29 @@
 ghost use Rattle.std.specs.Prelude.{◌≡◌, ℕ, ◌+◌, ◌<◌, List, ◌++◌, IfOk, OnOk};
 ghost use Rattle.vt_type.specs.Variational.{vkid_count, IsWellFormedV, AreWellFormedV};
 ghost use Rattle.vt_show.specs.Reading.{places, kids_places, renamed, kids_renamed, by_first_place};
-ghost use Rattle.vt_type.specs.Canonical.{FindsAs};
-ghost use Rattle.vt_show.specs.Places.{first_name};
+ghost use Rattle.vt_type.specs.Canonical.{FindsAs, first_name};
 
-use crate::places::Places;
 use std::alloc::{AllocError, Global};
-use vt_type::{VKids, VType};
+use vt_type::{FirstPaths, VKids, VType};
 
 /// The type with each variable named by the path at which it appears first.
-pub fn by_first_place(vtype: &VType, alloc: Global) -> Result<VType, AllocError>
+pub(crate) fn by_first_place(alloc: Global, vtype: &VType) -> Result<VType, AllocError>
     requires { IsWellFormedV vtype.now }
     ensures { IfOk result (λ t. t ≡ by_first_place vtype.now) }
 {
     let mut way = Vec::new(alloc);
-    let mut met = Places::new(alloc);
+    let mut met = FirstPaths::new(alloc);
     renamed(vtype, alloc, &mut way, &mut met)
 }
 
-// The type at `way`, with each variable named by where it was met first.
+// The type at `way`, with each variable named by where it was met first. The tree comes first, since
+// the recursion is measured by it.
 #[cycle(first_places)]
 fn renamed(
     vtype: &VType,
     alloc: Global,
     way: &mut Vec<u8>,
-    met: &mut Places,
+    met: &mut FirstPaths,
 ) -> Result<VType, AllocError>
     requires { IsWellFormedV vtype.now }
     ensures way { OnOk result (way.new.items ≡ way.old.items) }
@@ -61,7 +60,7 @@ fn renamed_kids(
     alloc: Global,
     number: u8,
     way: &mut Vec<u8>,
-    met: &mut Places,
+    met: &mut FirstPaths,
 ) -> Result<VKids, AllocError>
     requires well_formed { AreWellFormedV kids.now }
     requires numbers { number + vkid_count kids.now < 256 }

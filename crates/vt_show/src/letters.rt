@@ -10,7 +10,7 @@ use vt_type::{VKids, VType};
 
 /// The names of the variables that were met, each once, in the order in which they were met first.
 #[derive(Drop)]
-pub struct Letters {
+pub(crate) struct Letters {
     names: IndexSet<Vec<u8>>,
 }
 
@@ -23,7 +23,7 @@ impl Model for Letters {
 }
 
 impl Letters {
-    pub fn new(alloc: Global) -> Letters
+    pub(crate) fn new(alloc: Global) -> Letters
         ensures { result ≡ [] }
     {
         Letters {
@@ -32,7 +32,7 @@ impl Letters {
     }
 
     /// The number of a variable that was met, and 0 for any other.
-    pub fn number_of(&self, name: &[u8]) -> usize
+    pub(crate) fn number_of(&self, name: &[u8]) -> usize
         ensures { result ≡ unwrap_or (position (bytes_eq name.now) self.now) 0 }
     {
         self.names.get_index_of(name).unwrap_or(0)
@@ -48,9 +48,14 @@ impl Letters {
     }
 }
 
-/// Meets the variables of a type from left to right.
+/// Meets the variables of a type from left to right. The tree comes first, since the recursion is
+/// measured by it.
 #[cycle(letters)]
-pub fn meet_all(vtype: &VType, alloc: Global, letters: &mut Letters) -> Result<(), AllocError>
+pub(crate) fn meet_all(
+    vtype: &VType,
+    alloc: Global,
+    letters: &mut Letters,
+) -> Result<(), AllocError>
     ensures { OnOk result ((before : List (List ℕ)) → letters.old ≡ distinct before → letters.new ≡ distinct (before ++ variables vtype.now)) }
 {
     match vtype {

@@ -3,14 +3,14 @@ ghost use Rattle.vt_show.specs.Levels.{level_number};
 
 /// Where in a text a type stands, which decides on its parentheses.
 #[derive(Clone, Copy)]
-pub enum Level {
+pub(crate) enum Level {
     Anywhere,
     LeftOfArrow,
     BesideStar,
 }
 
 impl Level {
-    pub fn wraps_pair(self) -> bool
+    pub(crate) fn wraps_pair(self) -> bool
         ensures { result ≡ nat_lt 1 (level_number self) }
     {
         match self {
@@ -20,7 +20,7 @@ impl Level {
         }
     }
 
-    pub fn wraps_arrow(self) -> bool
+    pub(crate) fn wraps_arrow(self) -> bool
         ensures { result ≡ nat_lt 0 (level_number self) }
     {
         match self {

@@ -13,7 +13,6 @@ mod first_places;
 pub mod laws;
 mod letters;
 mod level;
-mod places;
 mod read;
 mod reader;
 mod show;

@@ -1,6 +1,6 @@
 //! Types read from their texts.
 ghost use Rattle.std.specs.Prelude.{◌≤◌, length, IfOk, IfSome};
-ghost use Rattle.vt_type.specs.Variational.{IsWellFormedV};
+ghost use Rattle.vt_type.specs.Variational.{IsWellFormedV, most_dimensions};
 ghost use Rattle.vt_show.specs.Conditions.{DimsBelow};
 ghost use Rattle.vt_show.specs.Reading.{IsReading, LackBraces};
 
@@ -12,7 +12,7 @@ use vt_type::{Tables, VType};
 /// The type that a text spells over the dimensions of the tables, if it spells one. Each variable is
 /// named by the path of its first appearance.
 pub fn read_type(alloc: Global, text: &str, tables: &Tables) -> Result<Option<VType>, AllocError>
-    requires few { length tables.now.dims ≤ 64 }
+    requires few { length tables.now.dims ≤ most_dimensions }
     requires no_brace { LackBraces tables.now.dims }
     ensures read { IfOk result (λ read. IsReading tables.now.dims text.now read) }
     ensures well_formed { IfOk result (λ read. IfSome read IsWellFormedV) }
@@ -20,8 +20,8 @@ pub fn read_type(alloc: Global, text: &str, tables: &Tables) -> Result<Option<VT
 {
     // That the names differ is what makes the reading the only one.
     let _count = tables.dims.len();
-    match read_whole(text.as_bytes(), alloc, &tables.dims) {
-        Ok(lettered) => Ok(Some(by_first_place(&lettered, alloc)?)),
+    match read_whole(alloc, text.as_bytes(), &tables.dims) {
+        Ok(lettered) => Ok(Some(by_first_place(alloc, &lettered)?)),
         Err(Miss::NotSpelled) => Ok(None),
         Err(Miss::Memory(error)) => Err(error),
     }

@@ -4,6 +4,7 @@ ghost use Rattle.std.specs.List.{prefix_len};
 ghost use Rattle.std.specs.Option.{option_map, option_copied};
 ghost use Rattle.std.specs.Str.{bytes_eq};
 ghost use Rattle.vt_type.specs.declared.vtype.VType.{Var};
+ghost use Rattle.vt_type.specs.Variational.{most_dimensions};
 ghost use Rattle.vt_show.specs.declared.reader.Miss.TheVariants.{Memory};
 ghost use Rattle.vt_show.specs.Steps.{after, is_digit, is_small_letter, has_zero, letter_length, letter_at, word_at, dim_at, one, two, list_with, inside_with, choice_with, atom_with, pair_with, arrow_with, type_at, type_of};
 ghost use Rattle.vt_show.specs.Misses.{IfNotSpelled};
@@ -14,7 +15,7 @@ use vt_type::{Head, Names, Path, VKids, VType};
 
 /// Why no type was read.
 #[derive(Drop)]
-pub enum Miss {
+pub(crate) enum Miss {
     /// No type is spelled here.
     NotSpelled,
     Memory(AllocError),
@@ -29,11 +30,11 @@ impl From<AllocError> for Miss {
 }
 
 /// The type of a whole text. A variable has the text of its letter for its name.
-pub fn read_whole(text: &[u8], alloc: Global, dims: &Names) -> Result<VType, Miss>
-    requires { length dims.now ≤ 64 }
+pub(crate) fn read_whole(alloc: Global, text: &[u8], dims: &Names) -> Result<VType, Miss>
+    requires { length dims.now ≤ most_dimensions }
     ensures { MatchResult result (λ vtype. type_of dims.now text.now ≡ Some vtype) (IfNotSpelled (type_of dims.now text.now ≡ None)) }
 {
-    let (vtype, rest) = read_arrow(text, alloc, dims)?;
+    let (vtype, rest) = read_arrow(alloc, text, dims)?;
     if rest.is_empty() {
         Ok(vtype)
     } else {
@@ -42,36 +43,36 @@ pub fn read_whole(text: &[u8], alloc: Global, dims: &Names) -> Result<VType, Mis
 }
 
 #[cycle(reader)]
-fn read_arrow<'a>(text: &'a [u8], alloc: Global, dims: &Names) -> Result<(VType, &'a [u8]), Miss>
-    requires { length dims.now ≤ 64 }
+fn read_arrow<'a>(alloc: Global, text: &'a [u8], dims: &Names) -> Result<(VType, &'a [u8]), Miss>
+    requires { length dims.now ≤ most_dimensions }
     ensures read { (fuel : ℕ) → length text.now < fuel → MatchResult result (λ found. type_at dims.now fuel text.now ≡ Some (found.0, found.1.now)) (IfNotSpelled (type_at dims.now fuel text.now ≡ None)) }
     ensures shorter { IfOk result (λ found. length found.1.now < length text.now) }
 {
-    let (from, rest) = read_pair(text, alloc, dims)?;
+    let (from, rest) = read_pair(alloc, text, dims)?;
     let Some(right) = after(rest, b" -> ") else {
         return Ok((from, rest));
     };
-    let (to, rest) = read_arrow(right, alloc, dims)?;
+    let (to, rest) = read_arrow(alloc, right, dims)?;
     Ok((two(alloc, Head::Fun, from, to)?, rest))
 }
 
 #[cycle(reader)]
-fn read_pair<'a>(text: &'a [u8], alloc: Global, dims: &Names) -> Result<(VType, &'a [u8]), Miss>
-    requires { length dims.now ≤ 64 }
+fn read_pair<'a>(alloc: Global, text: &'a [u8], dims: &Names) -> Result<(VType, &'a [u8]), Miss>
+    requires { length dims.now ≤ most_dimensions }
     ensures read { (fuel : ℕ) → length text.now ≤ fuel → MatchResult result (λ found. pair_with dims.now (type_at dims.now fuel) text.now ≡ Some (found.0, found.1.now)) (IfNotSpelled (pair_with dims.now (type_at dims.now fuel) text.now ≡ None)) }
     ensures shorter { IfOk result (λ found. length found.1.now < length text.now) }
 {
-    let (left, rest) = read_atom(text, alloc, dims)?;
+    let (left, rest) = read_atom(alloc, text, dims)?;
     let Some(right) = after(rest, b" * ") else {
         return Ok((left, rest));
     };
-    let (right, rest) = read_atom(right, alloc, dims)?;
+    let (right, rest) = read_atom(alloc, right, dims)?;
     Ok((two(alloc, Head::Pair, left, right)?, rest))
 }
 
 #[cycle(reader)]
-fn read_atom<'a>(text: &'a [u8], alloc: Global, dims: &Names) -> Result<(VType, &'a [u8]), Miss>
-    requires { length dims.now ≤ 64 }
+fn read_atom<'a>(alloc: Global, text: &'a [u8], dims: &Names) -> Result<(VType, &'a [u8]), Miss>
+    requires { length dims.now ≤ most_dimensions }
     ensures read { (fuel : ℕ) → length text.now ≤ fuel → MatchResult result (λ found. atom_with dims.now (type_at dims.now fuel) text.now ≡ Some (found.0, found.1.now)) (IfNotSpelled (atom_with dims.now (type_at dims.now fuel) text.now ≡ None)) }
     ensures shorter { IfOk result (λ found. length found.1.now < length text.now) }
 {
@@ -79,59 +80,59 @@ fn read_atom<'a>(text: &'a [u8], alloc: Global, dims: &Names) -> Result<(VType, 
         return Ok(found);
     }
     if let Some(rest) = after(text, b"[") {
-        return read_list(rest, alloc, dims);
+        return read_list(alloc, rest, dims);
     }
     if let Some(rest) = after(text, b"(") {
-        return read_inside(rest, alloc, dims);
+        return read_inside(alloc, rest, dims);
     }
     if let Some(rest) = after(text, b"@") {
-        return read_choice(rest, alloc, dims);
+        return read_choice(alloc, rest, dims);
     }
-    read_letter(text, alloc)
+    read_letter(alloc, text)
 }
 
 // The rest of a list, after its bracket.
 #[cycle(reader)]
-fn read_list<'a>(text: &'a [u8], alloc: Global, dims: &Names) -> Result<(VType, &'a [u8]), Miss>
-    requires { length dims.now ≤ 64 }
+fn read_list<'a>(alloc: Global, text: &'a [u8], dims: &Names) -> Result<(VType, &'a [u8]), Miss>
+    requires { length dims.now ≤ most_dimensions }
     ensures read { (fuel : ℕ) → length text.now < fuel → MatchResult result (λ found. list_with dims.now (type_at dims.now fuel) text.now ≡ Some (found.0, found.1.now)) (IfNotSpelled (list_with dims.now (type_at dims.now fuel) text.now ≡ None)) }
     ensures shorter { IfOk result (λ found. length found.1.now < length text.now) }
 {
-    let (item, rest) = read_arrow(text, alloc, dims)?;
+    let (item, rest) = read_arrow(alloc, text, dims)?;
     let rest = expect(rest, b"]")?;
     Ok((one(alloc, Head::List, item)?, rest))
 }
 
 // The rest of a type in parentheses.
 #[cycle(reader)]
-fn read_inside<'a>(text: &'a [u8], alloc: Global, dims: &Names) -> Result<(VType, &'a [u8]), Miss>
-    requires { length dims.now ≤ 64 }
+fn read_inside<'a>(alloc: Global, text: &'a [u8], dims: &Names) -> Result<(VType, &'a [u8]), Miss>
+    requires { length dims.now ≤ most_dimensions }
     ensures read { (fuel : ℕ) → length text.now < fuel → MatchResult result (λ found. inside_with dims.now (type_at dims.now fuel) text.now ≡ Some (found.0, found.1.now)) (IfNotSpelled (inside_with dims.now (type_at dims.now fuel) text.now ≡ None)) }
     ensures shorter { IfOk result (λ found. length found.1.now < length text.now) }
 {
-    let (vtype, rest) = read_arrow(text, alloc, dims)?;
+    let (vtype, rest) = read_arrow(alloc, text, dims)?;
     let rest = expect(rest, b")")?;
     Ok((vtype, rest))
 }
 
 // The rest of a choice, from the name of its dimension on.
 #[cycle(reader)]
-fn read_choice<'a>(text: &'a [u8], alloc: Global, dims: &Names) -> Result<(VType, &'a [u8]), Miss>
-    requires { length dims.now ≤ 64 }
+fn read_choice<'a>(alloc: Global, text: &'a [u8], dims: &Names) -> Result<(VType, &'a [u8]), Miss>
+    requires { length dims.now ≤ most_dimensions }
     ensures read { (fuel : ℕ) → length text.now < fuel → MatchResult result (λ found. choice_with dims.now (type_at dims.now fuel) text.now ≡ Some (found.0, found.1.now)) (IfNotSpelled (choice_with dims.now (type_at dims.now fuel) text.now ≡ None)) }
     ensures shorter { IfOk result (λ found. length found.1.now < length text.now) }
 {
     let (dim, rest) = read_dimension(text, dims)?;
-    let (left, rest) = read_arrow(rest, alloc, dims)?;
+    let (left, rest) = read_arrow(alloc, rest, dims)?;
     let rest = expect(rest, b", ")?;
-    let (right, rest) = read_arrow(rest, alloc, dims)?;
+    let (right, rest) = read_arrow(alloc, rest, dims)?;
     let rest = expect(rest, b"}")?;
     Ok((VType::choice(alloc, Dim(dim), left, right)?, rest))
 }
 
 // The dimension with the name up to the brace, and what stands after the brace.
 fn read_dimension<'a>(text: &'a [u8], dims: &Names) -> Result<(u32, &'a [u8]), Miss>
-    requires { length dims.now ≤ 64 }
+    requires { length dims.now ≤ most_dimensions }
     ensures read { MatchResult result (λ found. dim_at dims.now text.now ≡ Some (found.0, found.1.now)) (IfNotSpelled (dim_at dims.now text.now ≡ None)) }
     ensures shorter { IfOk result (λ found. length found.1.now < length text.now) }
 {
@@ -154,7 +155,7 @@ fn place_of_brace(text: &[u8]) -> Option<usize>
 
 // The number of a name. There are few names.
 fn number_of(dims: &Names, name: &[u8]) -> Option<u32>
-    requires { length dims.now ≤ 64 }
+    requires { length dims.now ≤ most_dimensions }
     ensures { result ≡ position (bytes_eq name.now) dims.now }
 {
     for number in 0..dims.len() as u32 {
@@ -184,7 +185,7 @@ fn word(text: &[u8]) -> Option<(VType, &[u8])>
     Some((VType::Err, rest))
 }
 
-fn read_letter<'a>(text: &'a [u8], alloc: Global) -> Result<(VType, &'a [u8]), Miss>
+fn read_letter<'a>(alloc: Global, text: &'a [u8]) -> Result<(VType, &'a [u8]), Miss>
     ensures read { MatchResult result (λ found. letter_at text.now ≡ Some (found.0, found.1.now)) (IfNotSpelled (letter_at text.now ≡ None)) }
     ensures shorter { IfOk result (λ found. length found.1.now < length text.now) }
 {

@@ -5,7 +5,7 @@ ghost use Rattle.vt_type.specs.Plain.{IsWellFormed};
 ghost use Rattle.vt_type.specs.Variational.{IsWellFormedV};
 ghost use Rattle.vt_type.specs.Text.{text_of};
 ghost use Rattle.vt_show.specs.Conditions.{DimsBelow};
-ghost use Rattle.vt_show.specs.Pairs.{pair_text};
+ghost use Rattle.vt_show.specs.Pairs.{both_text, pair_text};
 
 use crate::letters::{Letters, meet_all};
 use crate::level::Level;
@@ -35,14 +35,40 @@ pub fn show_pair(alloc: Global, pair: &ChangeLine, tables: &Tables) -> Result<St
     ensures { IfOk result (λ text. string_bytes text ≡ pair_text pair.now.wanted pair.now.result) }
 {
     let wanted = variational(&pair.wanted, alloc)?;
-    let outcome = variational(&pair.result, alloc)?;
+    match variational(&pair.result, alloc) {
+        Ok(outcome) => {
+            let text = show_both(alloc, &wanted, &outcome, tables);
+            drop(outcome);
+            drop(wanted);
+            text
+        }
+        Err(error) => {
+            drop(wanted);
+            Err(error)
+        }
+    }
+}
+
+// The text of a wanted type and the type that results.
+fn show_both(
+    alloc: Global,
+    wanted: &VType,
+    outcome: &VType,
+    tables: &Tables,
+) -> Result<String, AllocError>
+    requires wanted { IsWellFormedV wanted.now }
+    requires wanted_named { DimsBelow (length tables.now.dims) wanted.now }
+    requires outcome { IsWellFormedV outcome.now }
+    requires outcome_named { DimsBelow (length tables.now.dims) outcome.now }
+    ensures { IfOk result (λ text. string_bytes text ≡ both_text tables.now.dims wanted.now outcome.now) }
+{
     let mut letters = Letters::new(alloc);
-    meet_all(&wanted, alloc, &mut letters)?;
-    meet_all(&outcome, alloc, &mut letters)?;
+    meet_all(wanted, alloc, &mut letters)?;
+    meet_all(outcome, alloc, &mut letters)?;
     let mut text = String::new(alloc);
     push(&mut text, "wants ")?;
-    write_type(&wanted, &tables.dims, &letters, Level::Anywhere, &mut text)?;
+    write_type(wanted, &tables.dims, &letters, Level::Anywhere, &mut text)?;
     push(&mut text, ", result ")?;
-    write_type(&outcome, &tables.dims, &letters, Level::Anywhere, &mut text)?;
+    write_type(outcome, &tables.dims, &letters, Level::Anywhere, &mut text)?;
     Ok(text)
 }

@@ -5,9 +5,9 @@ ghost use Rattle.vt_show.specs.Pairs.{of_plain, of_plain_kids};
 use std::alloc::{AllocError, Global};
 use vt_type::{Plain, PlainKids, VKids, VType};
 
-/// The same type, with no choices in it.
+/// The same type, with no choices in it. The tree comes first, since the recursion is measured by it.
 #[cycle(variational)]
-pub fn variational(plain: &Plain, alloc: Global) -> Result<VType, AllocError>
+pub(crate) fn variational(plain: &Plain, alloc: Global) -> Result<VType, AllocError>
     ensures { IfOk result (λ vtype. vtype ≡ of_plain plain.now) }
 {
     match plain {

@@ -19,7 +19,7 @@ use vt_type::{Head, Names, VKids, VType};
 
 /// Writes a type as it stands at a level. The variables go by the letters of their numbers.
 #[cycle(writer)]
-pub fn write_type(
+pub(crate) fn write_type(
     vtype: &VType,
     dims: &Names,
     letters: &Letters,
@@ -184,7 +184,7 @@ fn push_if(needed: bool, text: &str, out: &mut String) -> Result<(), AllocError>
 }
 
 /// Puts a text at the end.
-pub fn push(out: &mut String, text: &str) -> Result<(), AllocError>
+pub(crate) fn push(out: &mut String, text: &str) -> Result<(), AllocError>
     ensures { OnOk result (string_bytes out.new ≡ string_bytes out.old ++ text.now) }
 {
     out.push_str(text)

@@ -1,4 +1,4 @@
-use Rattle.vt_show.specs.Places.{first_name}
+use Rattle.vt_type.specs.Canonical.{first_name}
 use Rattle.vt_show.specs.Reading.{places}
 use Rattle.vt_show.proofs.Readings.{reading_of-some, reading_of-none, type_of-well_formed, type_of-dims}
 use Rattle.vt_show.proofs.Renamings.{renamed-well_formed, renamed-dims}
