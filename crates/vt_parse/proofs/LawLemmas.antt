@@ -6,12 +6,12 @@ use Rattle.vt_syntax.specs.declared.program.Program.{Program}
 use Rattle.vt_syntax.specs.Spelling.{SpellsIn, Begins, BeginsAny, most_depth}
 use Rattle.vt_parse.specs.declared.fault.ParseFault.{ParseFault}
 use Rattle.vt_parse.specs.declared.fault.ParseFault.TheVariants.{Unexpected, TooDeep, Memory}
-use Rattle.vt_parse.specs.Machine.{State, initial, run, need, finish, Finished}
+use Rattle.vt_grammar.specs.Machine.{State, initial, run, need, finish, Finished}
 use Rattle.vt_parse.specs.Answer.{BeginsNone, SpellsNone, IsUnexpected, IsTooDeep, IsParsed}
 use Rattle.vt_parse.specs.Laws.{HasOneProgram, IsAdmittedIfBegun, HasLeastDepth, HasOneAnswer}
-use Rattle.vt_parse.proofs.Backbone.{has_completion, spelled_is_read}
-use Rattle.vt_parse.proofs.ReduceLemmas.{finish-depth}
-use Rattle.vt_parse.proofs.ParsedLemmas.{read-on}
+use Rattle.vt_grammar.proofs.Backbone.{has_completion, spelled_is_read}
+use Rattle.vt_grammar.proofs.ReduceLemmas.{finish-depth}
+use Rattle.vt_grammar.proofs.ReadOn.{read-on}
 
 -- The laws of what tokens spell.
 

@@ -1,17 +1,5 @@
-mod Rows
-mod KnownWords
-mod Standing
-mod Shutting
-mod ReadSpelled
-mod Completing
-mod Running
-mod SpelledRead
-mod Needing
-pub mod Backbone
-pub mod DepthLemmas
-pub mod ReduceLemmas
-pub mod ParsedLemmas
-pub mod LawLemmas
-pub mod Counting
-pub mod OtherStacks
-pub mod StepLemmas
+mod ParsedLemmas
+mod LawLemmas
+mod Counting
+mod ShutLemmas
+mod StepLemmas

@@ -4,57 +4,14 @@ use Rattle.std.proofs.lemmas.List.{take_more, take_all}
 use Rattle.vt_lex.specs.declared.token.Token.{Token}
 use Rattle.vt_syntax.specs.declared.program.Program.{Program}
 use Rattle.vt_syntax.specs.Spelling.{SpellsProgram, SpellsIn, Begins, BeginsAny, most_depth}
-use Rattle.vt_parse.specs.Machine.{State, initial, step, run, need, finish, Finished}
+use Rattle.vt_grammar.specs.Machine.{State, initial, step, run, need, finish, Finished}
 use Rattle.vt_parse.specs.Answer.{BeginsNone, SpellsNone, IsUnexpected, IsTooDeep, IsParsed}
-use Rattle.vt_parse.specs.States.{IsReached}
-use Rattle.vt_parse.proofs.Backbone.{read_is_spelled, has_completion, spelled_is_read, need_rises}
-use Rattle.vt_parse.proofs.ReduceLemmas.{finish-depth}
+use Rattle.vt_grammar.specs.States.{IsReached}
+use Rattle.vt_grammar.proofs.Backbone.{read_is_spelled, has_completion, spelled_is_read}
+use Rattle.vt_grammar.proofs.ReduceLemmas.{finish-depth}
+use Rattle.vt_grammar.proofs.ReadOn.{run-split, run-one, run-onto, reached-begins, read-on}
 
 -- What the reader knows of the tokens when it stops.
-
-pub record Split (text : List ℕ) (ts us : List Token) (s u : State) : Type 0 where
-  pub middle : State
-  pub first : run text s ts ≡ Some middle
-  pub second : run text middle us ≡ Some u
-
-pub run-split : (text : List ℕ) (ts us : List Token) (s u : State) → run text s (ts ++ us) ≡ Some u → Split text ts us s u
-run-split text [] us s u e = record { middle = s; first = refl; second = e }
-run-split text (t ∷ ts) us s u e = go (λ next. run-split text ts us next u) (step text s t) refl e
-  where
-    go : ((next : State) → run text next (ts ++ us) ≡ Some u → Split text ts us next u) → (o : Option State) → step text s t ≡ o
-        → (elim o [ Some next ↦ run text next (ts ++ us) | None ↦ None ]) ≡ Some u → Split text (t ∷ ts) us s u
-    go split None h e = cc
-    go split (Some next) h e =
-        let r = split next e in
-        record { middle = r.middle; first = ap (λ o. elim o [ Some n ↦ run text n ts | None ↦ None ]) h ∙ r.first; second = r.second }
-
-pub run-one : (text : List ℕ) (t : Token) (s u : State) → run text s (t ∷ []) ≡ Some u → step text s t ≡ Some u
-run-one text t s u e = go (step text s t) e
-  where
-    go : (o : Option State) → (elim o [ Some next ↦ run text next [] | None ↦ None ]) ≡ Some u → o ≡ Some u
-    go None e = cc
-    go (Some next) e = e
-
-pub reached-begins : (text : List ℕ) (ts : List Token) (s : State) → IsReached text ts s → Begins text most_depth ts
-reached-begins text ts s r = let c = has_completion text ts s r.runs in (c.0, c.1, need s, c.2, r.admitted)
-
--- each program that begins with tokens is read on from the state after them
-pub record ReadOn (text : List ℕ) (ts more : List Token) (program : Program) (depth : ℕ) : Type 0 where
-  pub middle : State
-  pub last : State
-  pub first : run text initial ts ≡ Some middle
-  pub second : run text middle more ≡ Some last
-  pub finished : finish last ≡ Some (record { defs = program.defs; main = program.main; depth = depth })
-  pub deep : need middle ≤ depth
-
-pub read-on : (text : List ℕ) (ts more : List Token) (program : Program) (depth : ℕ)
-    → SpellsIn text (ts ++ more) program depth → ReadOn text ts more program depth
-read-on text ts more program depth p =
-    let r = spelled_is_read text (ts ++ more) program.defs program.main depth p in
-    let s = run-split text ts more initial r.0 r.1 in
-    let d = finish-depth r.0 (record { defs = program.defs; main = program.main; depth = depth }) r.2 in
-    let n = need_rises text ts more s.middle r.0 s.first s.second in
-    record { middle = s.middle; last = r.0; first = s.first; second = s.second; finished = r.2; deep = omega arith }
 
 -- no step at a token: no program has it there
 pub no-step : (text : List ℕ) (ts : List Token) (t : Token) (s : State)
@@ -99,21 +56,6 @@ an-end text ts s program depth r e =
     let d = finish-depth s (record { defs = program.defs; main = program.main; depth = depth }) e in
     let k = r.admitted in
     (depth, read_is_spelled text ts s (record { defs = program.defs; main = program.main; depth = depth }) r.runs e, omega arith)
-
-pub run-onto : (text : List ℕ) (ts : List Token) (t : Token) (s m : State) (o : Option State)
-    → run text s ts ≡ Some m → step text m t ≡ o → run text s (ts ++ t ∷ []) ≡ o
-run-onto text [] t s m o e h = let same : s ≡ m = cc in let k = rw (← same) at h in alone (step text s t) k
-  where
-    alone : (q : Option State) → q ≡ o → (elim q [ Some next ↦ run text next [] | None ↦ None ]) ≡ o
-    alone None k = k
-    alone (Some next) k = k
-run-onto text (u ∷ ts) t s m o e h = go (λ next k. run-onto text ts t next m o k h) (step text s u) refl e
-  where
-    go : ((next : State) → run text next ts ≡ Some m → run text next (ts ++ t ∷ []) ≡ o) → (q : Option State) → step text s u ≡ q
-        → (elim q [ Some next ↦ run text next ts | None ↦ None ]) ≡ Some m
-        → (elim q [ Some next ↦ run text next (ts ++ t ∷ []) | None ↦ None ]) ≡ o
-    go on None k e = cc
-    go on (Some next) k e = on next e
 
 pub reached-first : (text : List ℕ) → IsReached text [] initial
 reached-first text = record { runs = refl; admitted = omega arith }

@@ -14,22 +14,23 @@ use Rattle.vt_syntax.specs.declared.program.Program.{Program}
 use Rattle.vt_syntax.specs.SurfaceTrees.{exprs}
 use Rattle.vt_syntax.specs.Infixes.{left_level, infix_of}
 use Rattle.vt_syntax.specs.Spelling.{part, across, most_depth}
-use Rattle.vt_parse.specs.declared.operand.Operand.{Operand}
-use Rattle.vt_parse.specs.declared.mark.Mark.{Mark}
-use Rattle.vt_parse.specs.declared.start.Start.{Start}
-use Rattle.vt_parse.specs.declared.start.Start.TheVariants as start
-use Rattle.vt_parse.specs.declared.start.Opening.TheVariants as opening
-use Rattle.vt_parse.specs.declared.frame.Frame.{Frame}
-use Rattle.vt_parse.specs.declared.frame.Frame.TheVariants as frame
-use Rattle.vt_parse.specs.declared.frame.Naming.{Naming}
-use Rattle.vt_parse.specs.declared.frame.Place.{Place}
-use Rattle.vt_parse.specs.declared.frame.Place.TheVariants as place
-use Rattle.vt_parse.specs.Words.{start_of, operator_of, mark_of}
-use Rattle.vt_parse.specs.Frames.{operand_of, deeper}
-use Rattle.vt_parse.specs.Machine.{State, Reduced, moved, reduce, may_join, join, argument, begin, want, name, end_list, list_mark, end_part, end_at, follow, continue, step, step_at, await, depth_over, depth_at, need, finish, finish_reduced, finish_with}
-use Rattle.vt_parse.specs.Reading.{IsNoNaming, IsNoList, is_operand, IsAdmitted, IsFinishedWith, IsFinished}
-use Rattle.vt_parse.proofs.DepthLemmas.{depth_over-grows}
-use Rattle.vt_parse.proofs.OtherStacks.{name-moved, end_list-moved, list_mark-moved, end_part-moved, continue-moved}
+use Rattle.vt_grammar.specs.declared.operand.Operand.{Operand}
+use Rattle.vt_grammar.specs.declared.mark.Mark.{Mark}
+use Rattle.vt_grammar.specs.declared.start.Start.{Start}
+use Rattle.vt_grammar.specs.declared.start.Start.TheVariants as start
+use Rattle.vt_grammar.specs.declared.start.Opening.TheVariants as opening
+use Rattle.vt_grammar.specs.declared.frame.Frame.{Frame}
+use Rattle.vt_grammar.specs.declared.frame.Frame.TheVariants as frame
+use Rattle.vt_grammar.specs.declared.frame.Naming.{Naming}
+use Rattle.vt_grammar.specs.declared.frame.Next.{Next}
+use Rattle.vt_grammar.specs.declared.frame.Next.TheVariants as ahead
+use Rattle.vt_grammar.specs.Words.{start_of, operator_of, mark_of}
+use Rattle.vt_grammar.specs.Frames.{operand_of, deeper, IsAdmitted}
+use Rattle.vt_grammar.specs.Seen.{square_of, element_of, naming_of, is_list, innermost, is_innermost}
+use Rattle.vt_grammar.specs.Machine.{State, Reduced, moved, reduce, may_join, join, argument, end_empty, begin, want, name, end_list, list_mark, end_part, end_at, follow, continue, step, step_at, await, depth_over, depth_at, need, finish, finish_reduced, finish_with}
+use Rattle.vt_parse.specs.Reading.{is_operand, IsFinishedWith, IsFinished}
+use Rattle.vt_grammar.proofs.DepthLemmas.{depth_over-grows}
+use Rattle.vt_grammar.proofs.OtherStacks.{name-moved, end_list-moved, list_mark-moved, end_part-moved, continue-moved}
 
 -- What each function of the reader does is what the machine does.
 
@@ -37,81 +38,64 @@ use Rattle.vt_parse.proofs.OtherStacks.{name-moved, end_list-moved, list_mark-mo
 pub choice-is-dim : (k : TokenKind) → start_of k ≡ start.Opens opening.Choice → k ≡ kind.Dim
 choice-is-dim = grind arith
 
--- a construct that waits for no name wants an expression
-pub want-part : (text : List ℕ) (t : Token) (s : State) (top : Frame) (stack : List Frame)
-    → IsNoNaming top → want text t s (top ∷ stack) ≡ begin text (start_of t.kind) t.span s
-want-part text t s (frame.Naming n) stack h = absurd h
-want-part text t s top stack h = refl
-
 -- an answer by what the machine does is one by what equals it
 pub answers-as : (r : Result (Option State) AllocError) (o q : Option State) → o ≡ q → IfOk r (λ next. next ≡ o) → IfOk r (λ next. next ≡ q)
 answers-as r o q e h = subst (λ (p : Option State). IfOk r (λ next. next ≡ p)) e h
 
 -- a token where an expression or a name is wanted, by the innermost construct
 module _ (text : List ℕ) (t : Token) (s : State) where
-  pub want-name : (top : Frame) (stack : List Frame) (n : Naming) → top ≡ frame.Naming n
-      → name text n t.kind t.span s stack ≡ want text t (moved s (top ∷ stack) s.next) (top ∷ stack)
-  want-name top stack n e =
-      let k : name text n t.kind t.span s stack ≡ want text t (moved s (frame.Naming n ∷ stack) s.next) (frame.Naming n ∷ stack) = sym (name-moved s (frame.Naming n ∷ stack) s.next text n t.kind t.span stack) in
-      k ∙ ap (λ (f : Frame). want text t (moved s (f ∷ stack) s.next) (f ∷ stack)) (sym e)
+  pub want-name : (rest : List Frame) (n : Naming) → s.stack ≡ frame.Naming n ∷ rest
+      → name text n t.kind t.span (moved s rest s.next) rest ≡ want text t s s.stack
+  want-name rest n e = name-moved s rest s.next text n t.kind t.span rest ∙ ap (λ l. want text t s l) (sym e)
 
-  pub want-other : (first : Start) (same top : Frame) (stack pushed : List Frame) → first ≡ start_of t.kind → same ≡ top → IsNoNaming top → pushed ≡ same ∷ stack
-      → begin text first t.span (moved s pushed s.next) ≡ want text t (moved s (top ∷ stack) s.next) (top ∷ stack)
-  want-other first same top stack pushed f e h p =
-      rw (f, p, e) (sym (want-part text t (moved s (top ∷ stack) s.next) top stack h))
+  want-part : (stack : List Frame) → innermost naming_of stack ≡ None → begin text (start_of t.kind) t.span s ≡ want text t s stack
+  want-part [] h = refl
+  want-part (frame.Naming n ∷ stack) h = absurd cc
+  want-part (top ∷ stack) h = refl
 
-  pub want-outside : (first : Start) (rest : List Frame) → first ≡ start_of t.kind → s.stack ≡ [] → rest ≡ []
+  pub want-other : (first : Start) (rest : List Frame) → first ≡ start_of t.kind → innermost naming_of s.stack ≡ None → rest ≡ s.stack
       → begin text first t.span (moved s rest s.next) ≡ want text t s s.stack
-  want-outside first rest f e h = rw (f, h ∙ sym e) (go s.stack e)
-    where
-      go : (stack : List Frame) → stack ≡ [] → begin text (start_of t.kind) t.span s ≡ want text t s stack
-      go stack e = rw e refl
-
-  pub want-within : (top : Frame) (rest : List Frame) → s.stack ≡ top ∷ rest
-      → want text t (moved s (top ∷ rest) s.next) (top ∷ rest) ≡ want text t s s.stack
-  want-within top rest e = ap (λ l. want text t (moved s l s.next) l) (sym e)
+  want-other first rest f h e = rw (f, e) (want-part s.stack h)
 
 -- the elements of a list up to its bracket, by the innermost construct
-module _ (at : Span) (es : Exprs) (deepest : ℕ) (s : State) (rest : List Frame) (top : Frame) (here : s.stack ≡ top ∷ rest) where
-  pub list-closed : (from span : Span) (p : Operand) (u : State) → top ≡ frame.Square from → span ≡ across from at
-      → p ≡ operand_of (part span (form.List es) (suc deepest)) → u ≡ moved s rest (place.Read p)
+module _ (at : Span) (es : Exprs) (deepest : ℕ) (s : State) (rest : List Frame) where
+  pub list-closed : (stack : List Frame) (from span : Span) (p : Operand) (u : State) → stack ≡ s.stack → stack ≡ frame.Square from ∷ rest
+      → span ≡ across from at → p ≡ operand_of (part span (form.List es) (suc deepest)) → u ≡ moved s rest (ahead.Read p)
       → Some u ≡ end_list at es (suc deepest) s s.stack
-  list-closed from span p u e a h k = rw (k, h, a) (sym (closed s.stack (here ∙ ap (λ (f : Frame). f ∷ rest) e)))
-    where
-      closed : (stack : List Frame) → stack ≡ frame.Square from ∷ rest
-          → end_list at es (suc deepest) s stack ≡ Some (moved s rest (place.Read (operand_of (part (across from at) (form.List es) (suc deepest)))))
-      closed stack e = rw e refl
+  list-closed stack from span p u same e a h k = rw (k, h, a, ← same, e) refl
 
-  pub list-longer : (before : Operand) (longer : Exprs) (deeper : ℕ) → top ≡ frame.Element before
+  pub list-longer : (before : Operand) (longer : Exprs) (deeper : ℕ) → s.stack ≡ frame.Element before ∷ rest
       → longer ≡ exprs before.expr es → deeper ≡ max before.depth (deepest + 1)
       → end_list at longer (suc deeper) (moved s rest s.next) rest ≡ end_list at es (suc deepest) s s.stack
   list-longer before longer deeper e h d =
-      end_list-moved s rest s.next at longer (suc deeper) rest
-      ∙ rw (h, d, add-one) (sym (opened s.stack (here ∙ ap (λ (f : Frame). f ∷ rest) e)))
+      end_list-moved s rest s.next at longer (suc deeper) rest ∙ rw (h, d, add-one) (sym (opened s.stack e))
     where
       opened : (stack : List Frame) → stack ≡ frame.Element before ∷ rest
           → end_list at es (suc deepest) s stack ≡ end_list at (exprs before.expr es) (suc (max before.depth (suc deepest))) s rest
       opened stack e = rw e refl
 
-  pub list-deeper : (before : Operand) (deeper : ℕ) → top ≡ frame.Element before → deeper ≡ max before.depth (deepest + 1)
+  pub list-deeper : (before : Operand) (deeper : ℕ) → s.stack ≡ frame.Element before ∷ rest → deeper ≡ max before.depth (deepest + 1)
       → depth_over s.stack deepest ≤ most_depth → depth_over rest deeper ≤ most_depth
   list-deeper before deeper e d h =
-      let k = rw (here, e) at h in
+      let k = rw e at h in
       rw (d, add-one) k
 
-  pub list-none : IsNoList top → None ≡ end_list at es (suc deepest) s s.stack
-  list-none h = sym (go s.stack here) where
-    go : (stack : List Frame) → stack ≡ top ∷ rest → end_list at es (suc deepest) s stack ≡ None
-    go stack e = rw e (none top h)
-      where
-        none : (one : Frame) → IsNoList one → end_list at es (suc deepest) s (one ∷ rest) ≡ None
-        none (frame.Square from) h = absurd h
-        none (frame.Element before) h = absurd h
-        none one h = refl
+-- no list goes on in the innermost construct
+pub list-none : (at : Span) (es : Exprs) (depth : ℕ) (s : State) (stack : List Frame) → stack ≡ s.stack
+    → innermost element_of s.stack ≡ None → innermost square_of stack ≡ None → None ≡ end_list at es depth s s.stack
+list-none at es depth s stack e h k = let g = rw e at k in none s.stack h g
+  where
+    none : (stack : List Frame) → innermost element_of stack ≡ None → innermost square_of stack ≡ None → None ≡ end_list at es depth s stack
+    none [] h k = refl
+    none (frame.Square from ∷ stack) h k = absurd cc
+    none (frame.Element before ∷ stack) h k = absurd cc
+    none (top ∷ stack) h k = refl
 
--- outside of all constructs there is no list to end
-pub list-end : (at : Span) (es : Exprs) (depth : ℕ) (s : State) → s.stack ≡ [] → None ≡ end_list at es depth s s.stack
-list-end at es depth s e = rw e refl
+-- a list without elements ends in its bracket alone
+pub empty-none : (at : Span) (s : State) (stack : List Frame) → innermost square_of stack ≡ None → None ≡ end_empty at s stack
+empty-none at s [] h = refl
+empty-none at s (frame.Square from ∷ stack) h = absurd cc
+empty-none at s (top ∷ stack) h = refl
 
 -- what is reduced is as deep as was needed
 pub reduced-admitted : (w : ℕ) (stack rest : List Frame) (p q : Operand)
@@ -133,15 +117,15 @@ follow-end text (start.Opens opening) t s p e = cc
 follow-end text other t s p e = refl
 
 -- the depth of an operand that has been read
-pub need-read : (s : State) (p : Operand) → s.next ≡ place.Read p → need s ≤ most_depth → depth_over s.stack p.depth ≤ most_depth
+pub need-read : (s : State) (p : Operand) → s.next ≡ ahead.Read p → need s ≤ most_depth → depth_over s.stack p.depth ≤ most_depth
 need-read s p e h = let k = rw e at h in omega arith
 
-pub depth-read : (stack : List Frame) (next : Place) (p : Operand) → next ≡ place.Read p → most_depth < p.depth → most_depth < depth_at stack next
+pub depth-read : (stack : List Frame) (next : Next) (p : Operand) → next ≡ ahead.Read p → most_depth < p.depth → most_depth < depth_at stack next
 depth-read stack next p e h = let k = depth_over-grows stack p.depth in rw e (omega arith)
 
 -- the end of the tokens
 pub finished : (s : State) (p : Operand) (o : Option Program)
-    → s.next ≡ place.Read p → IsFinishedWith s.defs (reduce 0 s.stack p) o → IsFinished s o
+    → s.next ≡ ahead.Read p → IsFinishedWith s.defs (reduce 0 s.stack p) o → IsFinished s o
 finished s p (Some program) e h = (max s.deepest (reduce 0 s.stack p).operand.depth, rw (e, h.1) (ended (reduce 0 s.stack p) h.0))
   where
     ended : (r : Reduced) → r.stack ≡ [] → finish_reduced s r ≡ Some (record { defs = s.defs; main = r.operand.expr; depth = max s.deepest r.operand.depth })
@@ -163,7 +147,7 @@ ended-not stack rest p q e empty h f k = let n = rw e at k in let t : empty ≡ 
 
 -- a program is finished, in the answer of a call
 pub finished-all : (s : State) (p : Operand) (r : Result (Option Program) AllocError)
-    → s.next ≡ place.Read p → IfOk r (IsFinishedWith s.defs (reduce 0 s.stack p)) → IfOk r (IsFinished s)
+    → s.next ≡ ahead.Read p → IfOk r (IsFinishedWith s.defs (reduce 0 s.stack p)) → IfOk r (IsFinished s)
 finished-all s p (Ok o) e h = finished s p o e h
 finished-all s p (Err fault) e h = tt
 
@@ -175,19 +159,16 @@ module _ (m : Mark) (at : Span) (s : State) (rest : List Frame) (top : Frame) (p
   pub part-admitted : depth_over s.stack p.depth ≤ most_depth → depth_over rest (deeper top p.depth) ≤ most_depth
   part-admitted h = rw here at h
 
--- a sign after an element of a list, where the construct was opened again
-module _ (s u : State) (next : Place) (top : Frame) (p : Operand) where
-  pub part-in-square : (m : Mark) (at from : Span) → top ≡ frame.Square from → u ≡ moved s (frame.Square from ∷ s.stack) next
-      → list_mark m at u u.stack p ≡ end_part m at s (top ∷ s.stack) p
-  part-in-square m at from e again = rw (again, e) (list_mark-moved s (frame.Square from ∷ s.stack) next m at (frame.Square from ∷ s.stack) p)
+-- in a list, and in no construct that waits for a sign
+pub part-in-list : (m : Mark) (at : Span) (s : State) (stack : List Frame) (p : Operand)
+    → is_innermost is_list stack ≡ true → list_mark m at s stack p ≡ end_part m at s stack p
+part-in-list m at s [] p h = absurd cc
+part-in-list m at s (frame.Square from ∷ stack) p h = refl
+part-in-list m at s (frame.Element before ∷ stack) p h = refl
+part-in-list m at s (top ∷ stack) p h = absurd cc
 
-  pub part-in-element : (m : Mark) (at : Span) (before : Operand) → top ≡ frame.Element before → u ≡ moved s (frame.Element before ∷ s.stack) next
-      → list_mark m at u u.stack p ≡ end_part m at s (top ∷ s.stack) p
-  part-in-element m at before e again = rw (again, e) (list_mark-moved s (frame.Element before ∷ s.stack) next m at (frame.Element before ∷ s.stack) p)
-
-  pub again-admitted : (same : Frame) → top ≡ same → u ≡ moved s (same ∷ s.stack) next
-      → depth_over s.stack (deeper top p.depth) ≤ most_depth → depth_over u.stack p.depth ≤ most_depth
-  again-admitted same e again h = let k = rw e at h in rw again k
+pub top-no-list : (stack rest : List Frame) (top : Frame) → is_innermost is_list stack ≡ false → stack ≡ top ∷ rest → is_list top ≡ false
+top-no-list stack rest top h e = rw e at h
 
 -- after what needs no sign has been closed
 pub end-reduced : (o : Option Mark) (m : Mark) (at : Span) (s : State) (rest : List Frame) (p q : Operand)
@@ -195,23 +176,23 @@ pub end-reduced : (o : Option Mark) (m : Mark) (at : Span) (s : State) (rest : L
     → end_part m at (moved s rest s.next) rest q ≡ end_at o at s (reduce 0 s.stack p)
 end-reduced o m at s rest p q e h = rw (e, h) (end_part-moved s rest s.next m at rest q)
 
--- a token at each place
+-- a token, by what comes next
 module _ (text : List ℕ) (t : Token) (s : State) where
-  step-as : (next : Place) → s.next ≡ next → step_at text s next t ≡ step text s t
+  step-as : (next : Next) → s.next ≡ next → step_at text s next t ≡ step text s t
   step-as next e = ap (λ n. step_at text s n t) (sym e)
 
-  pub step-wanted : s.next ≡ place.Wanted → want text t (moved s s.stack place.Wanted) s.stack ≡ step text s t
-  step-wanted e = ap (λ n. want text t (moved s s.stack n) s.stack) (sym e) ∙ step-as place.Wanted e
+  pub step-wanted : s.next ≡ ahead.Wanted → want text t (moved s s.stack ahead.Wanted) s.stack ≡ step text s t
+  step-wanted e = ap (λ n. want text t (moved s s.stack n) s.stack) (sym e) ∙ step-as ahead.Wanted e
 
-  await-as : (m : Mark) (o : Option Mark) → await m o (moved s s.stack place.Wanted) ≡ await m o s
+  await-as : (m : Mark) (o : Option Mark) → await m o (moved s s.stack ahead.Wanted) ≡ await m o s
   await-as m None = refl
   await-as m (Some found) = refl
 
-  pub step-awaits : (m : Mark) (o : Option Mark) → s.next ≡ place.Awaits m → o ≡ mark_of t.kind → await m o (moved s s.stack place.Wanted) ≡ step text s t
-  step-awaits m o e h = await-as m o ∙ ap (λ (q : Option Mark). await m q s) h ∙ step-as (place.Awaits m) e
+  pub step-awaits : (m : Mark) (o : Option Mark) → s.next ≡ ahead.Awaits m → o ≡ mark_of t.kind → await m o (moved s s.stack ahead.Wanted) ≡ step text s t
+  step-awaits m o e h = await-as m o ∙ ap (λ (q : Option Mark). await m q s) h ∙ step-as (ahead.Awaits m) e
 
-  pub step-read : (p : Operand) → s.next ≡ place.Read p → continue text (operator_of t.kind) t (moved s s.stack place.Wanted) p ≡ step text s t
-  step-read p e = continue-moved s place.Wanted text t p (operator_of t.kind) ∙ step-as (place.Read p) e
+  pub step-read : (p : Operand) → s.next ≡ ahead.Read p → continue text (operator_of t.kind) t (moved s s.stack ahead.Wanted) p ≡ step text s t
+  step-read p e = continue-moved s ahead.Wanted text t p (operator_of t.kind) ∙ step-as (ahead.Read p) e
 
   -- an argument of what has been read, or the end of a part
   pub follow-joined : (first : Start) (joined : Option State) (p : Operand) → first ≡ start_of t.kind → is_operand first ≡ true
@@ -222,8 +203,8 @@ module _ (text : List ℕ) (t : Token) (s : State) where
       → o ≡ mark_of t.kind → end_at o t.span s (reduce 0 s.stack p) ≡ follow text (start_of t.kind) t s p
   follow-ended first o p e h m = rw (m, ← e) (sym (follow-end text first t s p h))
 
--- what is known of the depth of each place
-pub depth-admitted : (stack : List Frame) (next : Place) (p : Operand) (d : ℕ) (o : Option ℕ) → next ≡ place.Read p → d ≡ p.depth
+-- what is known of the depth, by what comes next
+pub depth-admitted : (stack : List Frame) (next : Next) (p : Operand) (d : ℕ) (o : Option ℕ) → next ≡ ahead.Read p → d ≡ p.depth
     → IsAdmitted (depth_over stack d) o → IsAdmitted (depth_at stack next) o
 depth-admitted stack next p d o e h a = let k = rw h at a in rw e k
 

@@ -2,32 +2,22 @@
 ghost use Rattle.std.specs.Prelude.{◌≡◌, ◌∷◌, if◌then◌else◌, IfOk};
 ghost use Rattle.vt_lex.specs.Spans.{IsSpanIn, BeginsWithAt};
 ghost use Rattle.vt_syntax.specs.Spelling.{part};
-ghost use Rattle.vt_parse.specs.declared.start.Opening.TheVariants.{Choice};
-ghost use Rattle.vt_parse.specs.Frames.{operand_of, binder_at, stated, named, named_mark};
-ghost use Rattle.vt_parse.specs.Machine.{moved, may_state, end_empty, define, begin, name_recursive, name, want};
-ghost use Rattle.vt_parse.specs.Reading.{IsTop};
+ghost use Rattle.vt_grammar.specs.declared.start.Opening.TheVariants.{Choice};
+ghost use Rattle.vt_grammar.specs.Frames.{operand_of, binder_at, stated, with_name, mark_after_name};
+ghost use Rattle.vt_grammar.specs.Machine.{moved, may_state, end_empty, define, begin, name_recursive, name, want};
 
 use crate::closing::across;
-use crate::frame::{Frame, Naming, Place};
-use crate::leaves::{binder_at, leaf_at, opened, opened_place, stated};
-use crate::moving::{made_recursive, named, named_mark};
-use crate::operand::Operand;
-use crate::reader::Reader;
-use crate::stack::square_of;
-use crate::start::{NameStart, Start, Statement};
-use crate::words::{name_start_of, start_of};
+use crate::leaves::{after_opening, binder_at, leaf_at, opened, stated};
+use crate::moving::{made_recursive, mark_after_name, with_name};
 use std::alloc::{AllocError, Global};
+use vt_grammar::{
+    Frame, NameStart, Naming, Next, Operand, Reader, Start, Statement, name_start_of, start_of,
+};
 use vt_lex::{Span, Token, TokenKind};
 use vt_syntax::{Expr, ExprForm, Exprs};
 
-/// A construct that waits for a name, or any other.
-enum Top {
-    Naming(Naming),
-    Other(Frame),
-}
-
 /// A token where an expression or a name is wanted.
-pub fn want(
+pub(crate) fn want(
     alloc: Global,
     text: &str,
     token: Token,
@@ -38,52 +28,14 @@ pub fn want(
     ensures { IfOk result (λ next. next ≡ want text.now token reader reader.stack) }
 {
     let mut reader = reader;
-    match reader.stack.pop() {
+    match reader.stack.pop_naming() {
         None => begin(alloc, text, start_of(token.kind), token.span, reader),
-        Some(frame) => want_in(alloc, text, token, frame, reader),
-    }
-}
-
-// The same in a construct.
-fn want_in(
-    alloc: Global,
-    text: &str,
-    token: Token,
-    frame: Frame,
-    reader: Reader,
-) -> Result<Option<Reader>, AllocError>
-    requires span { IsSpanIn text.now token.span }
-    requires sign { token.kind ≡ TokenKind.Dim → BeginsWithAt text.now token.span }
-    ensures { IfOk result (λ next. next ≡ want text.now token (moved reader (frame ∷ reader.stack) reader.next) (frame ∷ reader.stack)) }
-{
-    match top_of(frame) {
-        Top::Naming(naming) => name(alloc, text, naming, token.kind, token.span, reader),
-        Top::Other(frame) => {
-            let mut reader = reader;
-            reader.stack.push(frame)?;
-            begin(alloc, text, start_of(token.kind), token.span, reader)
-        }
-    }
-}
-
-fn top_of(frame: Frame) -> Top
-    ensures { IsTop frame result }
-{
-    match frame {
-        Frame::Joint(op, at, left) => Top::Other(Frame::Joint(op, at, left)),
-        Frame::Tail(tail) => Top::Other(Frame::Tail(tail)),
-        Frame::Middle(middle) => Top::Other(Frame::Middle(middle)),
-        Frame::Right(right) => Top::Other(Frame::Right(right)),
-        Frame::Paren(from) => Top::Other(Frame::Paren(from)),
-        Frame::Square(from) => Top::Other(Frame::Square(from)),
-        Frame::Element(before) => Top::Other(Frame::Element(before)),
-        Frame::Body { recursive, name } => Top::Other(Frame::Body { recursive, name }),
-        Frame::Naming(naming) => Top::Naming(naming),
+        Some(naming) => name(alloc, text, naming, token.kind, token.span, reader),
     }
 }
 
 /// A token where an expression is wanted.
-pub fn begin(
+pub(crate) fn begin(
     alloc: Global,
     text: &str,
     start: Start,
@@ -97,7 +49,7 @@ pub fn begin(
     match start {
         Start::Leaf(leaf) => {
             match leaf_at(alloc, text, leaf, at) {
-                Ok(operand) => Ok(Some(reader.placed(Place::Read(operand)))),
+                Ok(operand) => Ok(Some(reader.placed(Next::Read(operand)))),
                 Err(fault) => {
                     drop(reader);
                     Err(fault)
@@ -106,7 +58,7 @@ pub fn begin(
         }
         Start::Opens(opening) => {
             match opened(alloc, text, opening, at) {
-                Ok(frame) => Ok(Some(reader.opened(frame, opened_place(opening))?)),
+                Ok(frame) => Ok(Some(reader.opened(frame, after_opening(opening))?)),
                 Err(fault) => {
                     drop(reader);
                     Err(fault)
@@ -125,10 +77,10 @@ pub fn begin(
 
 // The first word of a form.
 fn state(statement: Statement, at: Span, reader: Reader) -> Result<Option<Reader>, AllocError>
-    ensures { IfOk result (λ next. next ≡ (if may_state reader.stack then Some (moved reader (stated statement at ∷ reader.stack) Place.Wanted) else None)) }
+    ensures { IfOk result (λ next. next ≡ (if may_state reader.stack then Some (moved reader (stated statement at ∷ reader.stack) Next.Wanted) else None)) }
 {
     if reader.stack.may_state() {
-        Ok(Some(reader.opened(stated(statement, at), Place::Wanted)?))
+        Ok(Some(reader.opened(stated(statement, at), Next::Wanted)?))
     } else {
         drop(reader);
         Ok(None)
@@ -141,7 +93,7 @@ fn define(reader: Reader) -> Result<Option<Reader>, AllocError>
 {
     if reader.stack.is_empty() {
         let frame = Frame::Naming(Naming::DefName { recursive: false });
-        Ok(Some(reader.opened(frame, Place::Wanted)?))
+        Ok(Some(reader.opened(frame, Next::Wanted)?))
     } else {
         drop(reader);
         Ok(None)
@@ -153,15 +105,16 @@ fn end_empty(at: Span, reader: Reader) -> Option<Reader>
     ensures { result ≡ end_empty at reader reader.stack }
 {
     let mut reader = reader;
-    match reader.stack.pop() {
-        None => None,
-        Some(frame) => match square_of(&frame) {
-            None => None,
-            Some(from) => Some(reader.placed(Place::Read(empty_list(across(from, at))))),
-        },
+    match reader.stack.pop_square() {
+        None => {
+            drop(reader);
+            None
+        }
+        Some(from) => Some(reader.placed(Next::Read(empty_list(across(from, at))))),
     }
 }
 
+// A list without elements.
 fn empty_list(span: Span) -> Operand
     ensures { result ≡ operand_of (part span (ExprForm.List Exprs.Nil) 1) }
 {
@@ -176,7 +129,7 @@ fn empty_list(span: Span) -> Operand
 }
 
 /// A token where a name is wanted.
-pub fn name(
+pub(crate) fn name(
     alloc: Global,
     text: &str,
     naming: Naming,
@@ -198,6 +151,7 @@ pub fn name(
     }
 }
 
+// The name has come.
 fn name_here(
     alloc: Global,
     text: &str,
@@ -206,12 +160,12 @@ fn name_here(
     reader: Reader,
 ) -> Result<Option<Reader>, AllocError>
     requires { IsSpanIn text.now at }
-    ensures { IfOk result (λ next. next ≡ Some (moved reader (named naming (binder_at text.now at) ∷ reader.stack) (Place.Awaits (named_mark naming)))) }
+    ensures { IfOk result (λ next. next ≡ Some (moved reader (with_name naming (binder_at text.now at) ∷ reader.stack) (Next.Awaits (mark_after_name naming)))) }
 {
-    let mark = named_mark(&naming);
+    let mark = mark_after_name(&naming);
     match binder_at(alloc, text, at) {
         Ok(binder) => {
-            let reader = reader.opened(named(naming, binder), Place::Awaits(mark))?;
+            let reader = reader.opened(with_name(naming, binder), Next::Awaits(mark))?;
             Ok(Some(reader))
         }
         Err(fault) => {
@@ -222,11 +176,12 @@ fn name_here(
     }
 }
 
+// `rec` has come before the name.
 fn name_recursive(naming: Option<Naming>, reader: Reader) -> Result<Option<Reader>, AllocError>
     ensures { IfOk result (λ next. next ≡ name_recursive reader reader.stack naming) }
 {
     match naming {
-        Some(naming) => Ok(Some(reader.opened(Frame::Naming(naming), Place::Wanted)?)),
+        Some(naming) => Ok(Some(reader.opened(Frame::Naming(naming), Next::Wanted)?)),
         None => {
             drop(reader);
             Ok(None)

@@ -1,16 +1,15 @@
 //! What an operand makes of the construct that it closes.
 ghost use Rattle.std.specs.Prelude.{◌≡◌, suc, ◌^◌, ◌<◌, max, IfOk};
 ghost use Rattle.vt_syntax.specs.Spelling.{across, wrapped};
-ghost use Rattle.vt_parse.specs.Frames.{part_of, operand_of, both, closed, enclosed, deeper_tail, deeper_right};
+ghost use Rattle.vt_grammar.specs.Frames.{part_of, operand_of, both, closed, enclosed, deeper_tail, deeper_right};
 
-use crate::frame::{Right, Tail};
-use crate::operand::{Binder, Operand};
 use std::alloc::{AllocError, Global};
+use vt_grammar::{Binder, Operand, Right, Tail};
 use vt_lex::Span;
 use vt_syntax::{Expr, Op};
 
 /// From the start of one span to the end of another.
-pub fn across(from: Span, to: Span) -> Span
+pub(crate) fn across(from: Span, to: Span) -> Span
     ensures { result ≡ across from to }
 {
     Span {
@@ -20,7 +19,7 @@ pub fn across(from: Span, to: Span) -> Span
 }
 
 /// The depth of a form whose deepest part has this depth.
-pub fn above(deepest: usize) -> usize
+pub(crate) fn above(deepest: usize) -> usize
     requires { suc deepest < 2 ^ 64 }
     ensures { result ≡ suc deepest }
 {
@@ -28,7 +27,7 @@ pub fn above(deepest: usize) -> usize
 }
 
 /// Two sides, joined by an operator or by application.
-pub fn both(
+pub(crate) fn both(
     alloc: Global,
     op: Option<Op>,
     at: Span,
@@ -48,7 +47,7 @@ pub fn both(
 }
 
 /// A last part closes its construct.
-pub fn closed(alloc: Global, tail: Tail, last: Operand) -> Result<Operand, AllocError>
+pub(crate) fn closed(alloc: Global, tail: Tail, last: Operand) -> Result<Operand, AllocError>
     requires { deeper_tail tail last.depth < 2 ^ 64 }
     ensures { IfOk result (λ operand. operand ≡ closed tail last) }
 {
@@ -114,7 +113,12 @@ fn closed_match(
 }
 
 /// A second part closes its brackets, by the sign that stands here.
-pub fn enclosed(alloc: Global, right: Right, last: Operand, at: Span) -> Result<Operand, AllocError>
+pub(crate) fn enclosed(
+    alloc: Global,
+    right: Right,
+    last: Operand,
+    at: Span,
+) -> Result<Operand, AllocError>
     requires { deeper_right right last.depth < 2 ^ 64 }
     ensures { IfOk result (λ operand. operand ≡ enclosed right last at) }
 {
@@ -135,7 +139,7 @@ pub fn enclosed(alloc: Global, right: Right, last: Operand, at: Span) -> Result<
 }
 
 /// An expression in parentheses.
-pub fn wrapped(from: Span, to: Span, inner: Operand) -> Operand
+pub(crate) fn wrapped(from: Span, to: Span, inner: Operand) -> Operand
     requires { suc inner.depth < 2 ^ 64 }
     ensures { result ≡ operand_of (wrapped from to (part_of inner)) }
 {

@@ -1,32 +1,21 @@
 //! A sign or word after an operand, in the construct that waits for it.
-ghost use Rattle.std.specs.Prelude.{◌≡◌, ◌∷◌, ◌++◌, [], suc, ◌≤◌, max, if◌then◌else◌, IfOk};
+ghost use Rattle.std.specs.Prelude.{◌≡◌, ◌∷◌, ◌++◌, [], suc, ◌≤◌, max, false, if◌then◌else◌, IfOk};
 ghost use Rattle.vt_syntax.specs.SurfaceTrees.{exprs};
 ghost use Rattle.vt_syntax.specs.Spelling.{part, most_depth};
-ghost use Rattle.vt_parse.specs.Frames.{operand_of, awaited, passed, passed_place, defined, deeper};
-ghost use Rattle.vt_parse.specs.Machine.{moved, same_mark, depth_over, reduce, end_list, list_mark, paren_mark, end_part, end_at};
-ghost use Rattle.vt_parse.specs.Reading.{IsListFrame};
+ghost use Rattle.vt_grammar.specs.Frames.{operand_of, awaited, passed, after_part, defined, deeper};
+ghost use Rattle.vt_grammar.specs.Seen.{is_list};
+ghost use Rattle.vt_grammar.specs.Machine.{moved, same_mark, depth_over, reduce, end_list, list_mark, paren_mark, end_part, end_at};
 
 use crate::closing::{across, enclosed, wrapped};
-use crate::frame::{Frame, Middle, Place, Right};
-use crate::mark::Mark;
-use crate::moving::{awaited, bracket, passed, passed_place};
-use crate::operand::{Binder, Operand};
-use crate::reader::Reader;
+use crate::moving::{after_part, awaited, bracket, passed};
 use crate::reduce::reduce;
-use crate::words::same_mark;
 use std::alloc::{AllocError, Global};
+use vt_grammar::{Binder, Frame, Mark, Middle, Next, Operand, Reader, Right};
 use vt_lex::Span;
 use vt_syntax::{Def, Expr, ExprForm, Exprs};
 
-/// The bracket of a list, one of its elements, or neither.
-enum ListFrame {
-    Square(Span),
-    Element(Operand),
-    Neither,
-}
-
 /// A sign or word after an operand, if it is one, which closes what needs none.
-pub fn end_at(
+pub(crate) fn end_at(
     alloc: Global,
     mark: Option<Mark>,
     at: Span,
@@ -55,6 +44,7 @@ pub fn end_at(
     }
 }
 
+// The same once nothing more is closed without a sign.
 fn end_part(
     alloc: Global,
     mark: Mark,
@@ -66,16 +56,21 @@ fn end_part(
     ensures { IfOk result (λ next. next ≡ end_part mark at reader reader.stack operand) }
 {
     let mut reader = reader;
-    match reader.stack.pop() {
-        None => {
-            drop(reader);
-            drop(operand);
-            Ok(None)
+    if reader.stack.is_list() {
+        list_mark(alloc, mark, at, reader, operand)
+    } else {
+        match reader.stack.pop() {
+            None => {
+                drop(reader);
+                drop(operand);
+                Ok(None)
+            }
+            Some(frame) => end_part_in(alloc, mark, at, frame, reader, operand),
         }
-        Some(frame) => end_part_in(alloc, mark, at, frame, reader, operand),
     }
 }
 
+// The same in a construct that is no list.
 fn end_part_in(
     alloc: Global,
     mark: Mark,
@@ -84,25 +79,21 @@ fn end_part_in(
     reader: Reader,
     operand: Operand,
 ) -> Result<Option<Reader>, AllocError>
-    requires { depth_over reader.stack (deeper frame operand.depth) ≤ most_depth }
+    requires admitted { depth_over reader.stack (deeper frame operand.depth) ≤ most_depth }
+    requires no_list { is_list frame ≡ false }
     ensures { IfOk result (λ next. next ≡ end_part mark at reader (frame ∷ reader.stack) operand) }
 {
     match frame {
-        Frame::Joint(_, _, _) => Ok(None),
-        Frame::Tail(_) => Ok(None),
         Frame::Middle(middle) => pass(mark, middle, reader, operand),
         Frame::Right(right) => enclose(alloc, mark, at, right, reader, operand),
         Frame::Paren(from) => paren_mark(mark, at, from, reader, operand),
-        Frame::Square(from) => {
-            let reader = reader.opened(Frame::Square(from), Place::Wanted)?;
-            list_mark(alloc, mark, at, reader, operand)
-        }
-        Frame::Element(before) => {
-            let reader = reader.opened(Frame::Element(before), Place::Wanted)?;
-            list_mark(alloc, mark, at, reader, operand)
-        }
         Frame::Body { recursive, name } => end_body(mark, recursive, name, reader, operand),
-        Frame::Naming(_) => Ok(None),
+        other => {
+            drop(other);
+            drop(reader);
+            drop(operand);
+            Ok(None)
+        }
     }
 }
 
@@ -113,10 +104,10 @@ fn pass(
     reader: Reader,
     operand: Operand,
 ) -> Result<Option<Reader>, AllocError>
-    ensures { IfOk result (λ next. next ≡ (if same_mark mark (awaited middle) then Some (moved reader (passed middle operand ∷ reader.stack) (passed_place middle)) else None)) }
+    ensures { IfOk result (λ next. next ≡ (if same_mark mark (awaited middle) then Some (moved reader (passed middle operand ∷ reader.stack) (after_part middle)) else None)) }
 {
-    if same_mark(mark, awaited(&middle)) {
-        let next = passed_place(&middle);
+    if mark.is_same(awaited(&middle)) {
+        let next = after_part(&middle);
         Ok(Some(reader.opened(passed(middle, operand), next)?))
     } else {
         drop(middle);
@@ -138,9 +129,9 @@ fn enclose(
     requires { depth_over reader.stack (deeper (Frame.Right right) operand.depth) ≤ most_depth }
     ensures { IfOk result (λ next. next ≡ end_part mark at reader (Frame.Right right ∷ reader.stack) operand) }
 {
-    if same_mark(mark, bracket(&right)) {
+    if mark.is_same(bracket(&right)) {
         let whole = enclosed(alloc, right, operand, at)?;
-        Ok(Some(reader.placed(Place::Read(whole))))
+        Ok(Some(reader.placed(Next::Read(whole))))
     } else {
         drop(right);
         drop(reader);
@@ -160,15 +151,15 @@ fn paren_mark(
     requires { depth_over reader.stack (suc operand.depth) ≤ most_depth }
     ensures { IfOk result (λ next. next ≡ paren_mark mark at reader from reader.stack operand) }
 {
-    if same_mark(mark, Mark::ParenClose) {
+    if mark.is_same(Mark::ParenClose) {
         let whole = wrapped(from, at, operand);
-        Ok(Some(reader.placed(Place::Read(whole))))
-    } else if same_mark(mark, Mark::Comma) {
+        Ok(Some(reader.placed(Next::Read(whole))))
+    } else if mark.is_same(Mark::Comma) {
         let frame = Frame::Right(Right::Pair {
             from,
             left: operand,
         });
-        Ok(Some(reader.opened(frame, Place::Wanted)?))
+        Ok(Some(reader.opened(frame, Next::Wanted)?))
     } else {
         drop(reader);
         drop(operand);
@@ -187,9 +178,9 @@ fn list_mark(
     requires { depth_over reader.stack operand.depth ≤ most_depth }
     ensures { IfOk result (λ next. next ≡ list_mark mark at reader reader.stack operand) }
 {
-    if same_mark(mark, Mark::Semicolon) {
-        Ok(Some(reader.opened(Frame::Element(operand), Place::Wanted)?))
-    } else if same_mark(mark, Mark::SquareClose) {
+    if mark.is_same(Mark::Semicolon) {
+        Ok(Some(reader.opened(Frame::Element(operand), Next::Wanted)?))
+    } else if mark.is_same(Mark::SquareClose) {
         end_list(alloc, at, reader, operand)
     } else {
         drop(reader);
@@ -217,47 +208,26 @@ fn end_list(
             return Err(fault);
         }
     };
-    while let Some(frame) = reader.stack.pop() {
-        match list_frame(frame) {
-            ListFrame::Square(from) => {
-                let whole = list_of(across(from, at), items, deepest);
-                return Ok(Some(reader.placed(Place::Read(whole))));
-            }
-            ListFrame::Element(before) => {
-                deepest = before.depth.max(deepest + 1);
-                items = match Exprs::more(alloc, before.expr, items) {
-                    Ok(items) => items,
-                    Err(fault) => {
-                        drop(reader);
-                        return Err(fault);
-                    }
-                };
-            }
-            ListFrame::Neither => {
-                drop(items);
+    while let Some(before) = reader.stack.pop_element() {
+        deepest = before.depth.max(deepest + 1);
+        items = match Exprs::more(alloc, before.expr, items) {
+            Ok(items) => items,
+            Err(fault) => {
                 drop(reader);
-                return Ok(None);
+                return Err(fault);
             }
-        }
+        };
     }
-    drop(items);
-    drop(reader);
-    Ok(None)
-}
-
-fn list_frame(frame: Frame) -> ListFrame
-    ensures { IsListFrame frame result }
-{
-    match frame {
-        Frame::Joint(_, _, _) => ListFrame::Neither,
-        Frame::Tail(_) => ListFrame::Neither,
-        Frame::Middle(_) => ListFrame::Neither,
-        Frame::Right(_) => ListFrame::Neither,
-        Frame::Paren(_) => ListFrame::Neither,
-        Frame::Square(from) => ListFrame::Square(from),
-        Frame::Element(before) => ListFrame::Element(before),
-        Frame::Body { .. } => ListFrame::Neither,
-        Frame::Naming(_) => ListFrame::Neither,
+    match reader.stack.pop_square() {
+        None => {
+            drop(items);
+            drop(reader);
+            Ok(None)
+        }
+        Some(from) => {
+            let whole = list_of(across(from, at), items, deepest);
+            Ok(Some(reader.placed(Next::Read(whole))))
+        }
     }
 }
 
@@ -284,9 +254,9 @@ fn end_body(
     reader: Reader,
     body: Operand,
 ) -> Result<Option<Reader>, AllocError>
-    ensures { IfOk result (λ next. next ≡ (if same_mark mark Mark.Semicolon then Some (record { defs = reader.defs ++ defined recursive name body ∷ []; deepest = max reader.deepest body.depth; stack = reader.stack; next = Place.Wanted }) else None)) }
+    ensures { IfOk result (λ next. next ≡ (if same_mark mark Mark.Semicolon then Some (record { defs = reader.defs ++ defined recursive name body ∷ []; deepest = max reader.deepest body.depth; stack = reader.stack; next = Next.Wanted }) else None)) }
 {
-    if same_mark(mark, Mark::Semicolon) {
+    if mark.is_same(Mark::Semicolon) {
         let Reader {
             defs,
             deepest,
@@ -304,7 +274,7 @@ fn end_body(
         };
         match defs.push(def) {
             Ok(()) => {
-                let next = Place::Wanted;
+                let next = Next::Wanted;
                 Ok(Some(Reader {
                     defs,
                     deepest,

@@ -1,20 +1,16 @@
 //! The end of the tokens.
 ghost use Rattle.std.specs.Prelude.{◌≤◌, IfOk};
 ghost use Rattle.vt_syntax.specs.Spelling.{most_depth};
-ghost use Rattle.vt_parse.specs.Machine.{depth_over, reduce, need};
+ghost use Rattle.vt_grammar.specs.Machine.{depth_over, reduce, need};
 ghost use Rattle.vt_parse.specs.Reading.{IsFinished, IsFinishedWith};
 
-use crate::definitions::Definitions;
-use crate::frame::Place;
-use crate::operand::Operand;
-use crate::reader::Reader;
 use crate::reduce::reduce;
-use crate::stack::Stack;
 use std::alloc::{AllocError, Global};
+use vt_grammar::{Definitions, Next, Operand, Reader, Stack};
 use vt_syntax::Program;
 
 /// The program that ends here, if one does.
-pub fn finish(alloc: Global, reader: Reader) -> Result<Option<Program>, AllocError>
+pub(crate) fn finish(alloc: Global, reader: Reader) -> Result<Option<Program>, AllocError>
     requires { need reader ≤ most_depth }
     ensures { IfOk result (IsFinished reader) }
 {
@@ -25,20 +21,21 @@ pub fn finish(alloc: Global, reader: Reader) -> Result<Option<Program>, AllocErr
         ..
     } = reader;
     match next {
-        Place::Wanted => {
+        Next::Wanted => {
             drop(defs);
             drop(stack);
             Ok(None)
         }
-        Place::Awaits(_) => {
+        Next::Awaits(_) => {
             drop(defs);
             drop(stack);
             Ok(None)
         }
-        Place::Read(operand) => finish_with(alloc, defs, stack, operand),
+        Next::Read(operand) => finish_with(alloc, defs, stack, operand),
     }
 }
 
+// The program of these definitions and this operand, if no construct waits for more.
 fn finish_with(
     alloc: Global,
     defs: Definitions,

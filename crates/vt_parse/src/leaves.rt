@@ -2,19 +2,16 @@
 ghost use Rattle.std.specs.Prelude.{◌≡◌, IfOk};
 ghost use Rattle.vt_lex.specs.Spans.{IsSpanIn, BeginsWithAt};
 ghost use Rattle.vt_syntax.specs.Spelling.{part};
-ghost use Rattle.vt_parse.specs.declared.start.Opening;
-ghost use Rattle.vt_parse.specs.Frames.{operand_of, binder_at, dim_binder_at, leaf_at, opened, opened_place, stated};
+ghost use Rattle.vt_grammar.specs.declared.start.Opening;
+ghost use Rattle.vt_grammar.specs.Frames.{operand_of, binder_at, dim_binder_at, leaf_at, opened, after_opening, stated};
 
-use crate::frame::{Frame, Middle, Naming, Place};
-use crate::mark::Mark;
-use crate::operand::{Binder, Operand};
-use crate::start::{Leaf, Opening, Statement};
 use std::alloc::{AllocError, Global};
+use vt_grammar::{Binder, Frame, Leaf, Mark, Middle, Naming, Next, Opening, Operand, Statement};
 use vt_lex::{Span, dim_at, word_at};
 use vt_syntax::{Expr, ExprForm};
 
 /// The name that is bound here.
-pub fn binder_at(alloc: Global, text: &str, at: Span) -> Result<Binder, AllocError>
+pub(crate) fn binder_at(alloc: Global, text: &str, at: Span) -> Result<Binder, AllocError>
     requires { IsSpanIn text.now at }
     ensures { IfOk result (λ binder. binder ≡ binder_at text.now at) }
 {
@@ -23,7 +20,7 @@ pub fn binder_at(alloc: Global, text: &str, at: Span) -> Result<Binder, AllocErr
 }
 
 /// The dimension that is named here.
-pub fn dim_binder_at(alloc: Global, text: &str, at: Span) -> Result<Binder, AllocError>
+pub(crate) fn dim_binder_at(alloc: Global, text: &str, at: Span) -> Result<Binder, AllocError>
     requires span { IsSpanIn text.now at }
     requires sign { BeginsWithAt text.now at }
     ensures { IfOk result (λ binder. binder ≡ dim_binder_at text.now at) }
@@ -33,7 +30,12 @@ pub fn dim_binder_at(alloc: Global, text: &str, at: Span) -> Result<Binder, Allo
 }
 
 /// The expression of one token.
-pub fn leaf_at(alloc: Global, text: &str, leaf: Leaf, at: Span) -> Result<Operand, AllocError>
+pub(crate) fn leaf_at(
+    alloc: Global,
+    text: &str,
+    leaf: Leaf,
+    at: Span,
+) -> Result<Operand, AllocError>
     requires { IsSpanIn text.now at }
     ensures { IfOk result (λ operand. operand ≡ leaf_at text.now leaf at) }
 {
@@ -49,6 +51,7 @@ pub fn leaf_at(alloc: Global, text: &str, leaf: Leaf, at: Span) -> Result<Operan
     }
 }
 
+// An expression of this form, of one token.
 fn leaf_of(form: ExprForm, at: Span) -> Operand
     ensures { result ≡ operand_of (part at form 1) }
 {
@@ -60,7 +63,12 @@ fn leaf_of(form: ExprForm, at: Span) -> Operand
 }
 
 /// The construct that an opening token begins.
-pub fn opened(alloc: Global, text: &str, opening: Opening, at: Span) -> Result<Frame, AllocError>
+pub(crate) fn opened(
+    alloc: Global,
+    text: &str,
+    opening: Opening,
+    at: Span,
+) -> Result<Frame, AllocError>
     requires span { IsSpanIn text.now at }
     requires sign { opening ≡ Opening.Choice → BeginsWithAt text.now at }
     ensures { IfOk result (λ frame. frame ≡ opened text.now opening at) }
@@ -76,18 +84,18 @@ pub fn opened(alloc: Global, text: &str, opening: Opening, at: Span) -> Result<F
 }
 
 /// What comes after an opening token.
-pub fn opened_place(opening: Opening) -> Place
-    ensures { result ≡ opened_place opening }
+pub(crate) fn after_opening(opening: Opening) -> Next
+    ensures { result ≡ after_opening opening }
 {
     match opening {
-        Opening::Paren => Place::Wanted,
-        Opening::Square => Place::Wanted,
-        Opening::Choice => Place::Awaits(Mark::BraceOpen),
+        Opening::Paren => Next::Wanted,
+        Opening::Square => Next::Wanted,
+        Opening::Choice => Next::Awaits(Mark::BraceOpen),
     }
 }
 
 /// The construct that the first word of a form begins.
-pub fn stated(statement: Statement, from: Span) -> Frame
+pub(crate) fn stated(statement: Statement, from: Span) -> Frame
     ensures { result ≡ stated statement from }
 {
     match statement {

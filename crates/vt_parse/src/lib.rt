@@ -2,35 +2,24 @@
 //!
 //! A list of tokens spells at most one program. [`parse`] gives it, or the first token that no program
 //! has there, or that only programs have that are nested too deep; `specs/Answer.antt` says which, by
-//! the relation of vt_syntax between tokens and programs. Read it first.
+//! the relation of vt_syntax between tokens and programs. Read it first; `specs/Laws.antt` says what
+//! follows of it.
 //!
-//! A machine over lists of tokens, `specs/Machine.antt`, reads from left to right, with a stack of the
-//! constructs that are open. That it reads what is spelled, and only that, is proved. A [`Reader`] is a
-//! state of this machine, and the functions from `stepping` down do one step of it.
-//!
-//! [`Reader`]: reader::Reader
+//! The functions from `stepping` down do one step of the machine of vt_grammar, which reads what is
+//! spelled, and only that: so [`parse`] is a loop of steps, with a test of the depth after each.
 #![tactic(auto)]
 
 mod beginning;
 mod closing;
-mod definitions;
-mod depth;
 mod ending;
 mod fault;
 mod finishing;
-mod frame;
 pub mod laws;
 mod leaves;
-mod mark;
 mod moving;
-mod operand;
 mod parsing;
-mod reader;
 mod reduce;
-mod stack;
-mod start;
 mod stepping;
-mod words;
 
 pub use fault::ParseFault;
 pub use parsing::parse;

@@ -1,24 +1,22 @@
 //! What a construct waits for, and what it becomes when that comes.
 ghost use Rattle.std.specs.Prelude.{◌≡◌};
-ghost use Rattle.vt_parse.specs.Frames.{awaited, passed, passed_place, bracket, named, named_mark, made_recursive, place_after};
+ghost use Rattle.vt_grammar.specs.Frames.{awaited, passed, after_part, bracket, with_name, mark_after_name, made_recursive, after_mark};
 
-use crate::frame::{Frame, Middle, Naming, Place, Right, Tail};
-use crate::mark::Mark;
-use crate::operand::{Binder, Operand};
+use vt_grammar::{Binder, Frame, Mark, Middle, Naming, Next, Operand, Right, Tail};
 
 /// What comes after a sign that was awaited.
-pub fn place_after(mark: Mark) -> Place
-    ensures { result ≡ place_after mark }
+pub(crate) fn after_mark(mark: Mark) -> Next
+    ensures { result ≡ after_mark mark }
 {
     match mark {
-        Mark::SquareOpen => Place::Awaits(Mark::SquareClose),
-        Mark::SquareClose => Place::Awaits(Mark::Arrow),
-        _ => Place::Wanted,
+        Mark::SquareOpen => Next::Awaits(Mark::SquareClose),
+        Mark::SquareClose => Next::Awaits(Mark::Arrow),
+        _ => Next::Wanted,
     }
 }
 
 /// What a part waits for.
-pub fn awaited(middle: &Middle) -> Mark
+pub(crate) fn awaited(middle: &Middle) -> Mark
     ensures { result ≡ awaited middle.now }
 {
     match middle {
@@ -32,17 +30,17 @@ pub fn awaited(middle: &Middle) -> Mark
 }
 
 /// What comes next then.
-pub fn passed_place(middle: &Middle) -> Place
-    ensures { result ≡ passed_place middle.now }
+pub(crate) fn after_part(middle: &Middle) -> Next
+    ensures { result ≡ after_part middle.now }
 {
     match middle {
-        Middle::Matched { .. } => Place::Awaits(Mark::SquareOpen),
-        _ => Place::Wanted,
+        Middle::Matched { .. } => Next::Awaits(Mark::SquareOpen),
+        _ => Next::Wanted,
     }
 }
 
 /// What a construct becomes, when its part has been read and its sign has come.
-pub fn passed(middle: Middle, part: Operand) -> Frame
+pub(crate) fn passed(middle: Middle, part: Operand) -> Frame
     ensures { result ≡ passed middle part }
 {
     match middle {
@@ -76,7 +74,7 @@ pub fn passed(middle: Middle, part: Operand) -> Frame
 }
 
 /// The bracket that a second part waits for.
-pub fn bracket(right: &Right) -> Mark
+pub(crate) fn bracket(right: &Right) -> Mark
     ensures { result ≡ bracket right.now }
 {
     match right {
@@ -86,8 +84,8 @@ pub fn bracket(right: &Right) -> Mark
 }
 
 /// The sign that a construct waits for after its name.
-pub fn named_mark(naming: &Naming) -> Mark
-    ensures { result ≡ named_mark naming.now }
+pub(crate) fn mark_after_name(naming: &Naming) -> Mark
+    ensures { result ≡ mark_after_name naming.now }
 {
     match naming {
         Naming::FunName { .. } => Mark::Arrow,
@@ -99,8 +97,8 @@ pub fn named_mark(naming: &Naming) -> Mark
 }
 
 /// What a construct becomes with its name.
-pub fn named(naming: Naming, name: Binder) -> Frame
-    ensures { result ≡ named naming name }
+pub(crate) fn with_name(naming: Naming, name: Binder) -> Frame
+    ensures { result ≡ with_name naming name }
 {
     match naming {
         Naming::FunName { from } => Frame::Tail(Tail::FunBody { from, name }),
@@ -132,7 +130,7 @@ pub fn named(naming: Naming, name: Binder) -> Frame
 }
 
 /// What `rec` makes of a construct that waits for its name.
-pub fn made_recursive(naming: Naming) -> Option<Naming>
+pub(crate) fn made_recursive(naming: Naming) -> Option<Naming>
     ensures { result ≡ made_recursive naming }
 {
     match naming {

@@ -5,17 +5,15 @@ ghost use Rattle.vt_lex.specs.Spans.{IsSpanIn, AreSpansIn, BeginWithAt, BeginsWi
 ghost use Rattle.vt_syntax.specs.Spelling.{most_depth};
 ghost use Rattle.vt_syntax.specs.Programs.{program_nodes};
 ghost use Rattle.vt_parse.specs.Answer.{IsParsed};
-ghost use Rattle.vt_parse.specs.Machine.{step, depth_at, need};
-ghost use Rattle.vt_parse.specs.Reading.{IsAdmitted, IsOutcome};
+ghost use Rattle.vt_grammar.specs.Machine.{step, depth_at, need};
+ghost use Rattle.vt_grammar.specs.Frames.{IsAdmitted};
+ghost use Rattle.vt_parse.specs.Reading.{IsOutcome};
 
 use crate::ParseFault;
-use crate::depth::admitted;
 use crate::finishing::finish;
-use crate::frame::Place;
-use crate::reader::Reader;
-use crate::stack::Stack;
 use crate::stepping::step;
 use std::alloc::{AllocError, Global};
+use vt_grammar::{Next, Reader, Stack, admitted};
 use vt_lex::Token;
 use vt_syntax::Program;
 
@@ -45,13 +43,14 @@ pub fn parse(alloc: Global, text: &str, tokens: &[Token]) -> Result<Program, Par
     }
 }
 
-/// What one more token comes to.
+// What one more token comes to.
 enum Outcome {
     To(Reader),
     Unexpected,
     TooDeep,
 }
 
+// One more token.
 fn advance(alloc: Global, text: &str, reader: Reader, token: Token) -> Result<Outcome, AllocError>
     requires admitted { need reader ≤ most_depth }
     requires span { IsSpanIn text.now token.span }
@@ -62,6 +61,7 @@ fn advance(alloc: Global, text: &str, reader: Reader, token: Token) -> Result<Ou
     Ok(outcome_of(next))
 }
 
+// The state after a token, if there is one and it is admitted.
 fn outcome_of(next: Option<Reader>) -> Outcome
     ensures { IsOutcome next result }
 {
@@ -85,13 +85,14 @@ fn is_admitted(reader: &Reader) -> bool
     admitted(reader.deepest).is_some() && depth_at(&reader.stack, &reader.next).is_some()
 }
 
-fn depth_at(stack: &Stack, next: &Place) -> Option<usize>
+// How deep the whole is at least, if that is admitted.
+fn depth_at(stack: &Stack, next: &Next) -> Option<usize>
     ensures { IsAdmitted (depth_at stack.now next.now) result }
 {
     match next {
-        Place::Wanted => stack.depth_wanted(),
-        Place::Awaits(_) => stack.depth_over(0, 1),
-        Place::Read(operand) => {
+        Next::Wanted => stack.depth_wanted(),
+        Next::Awaits(_) => stack.depth_over(0, 1),
+        Next::Read(operand) => {
             let depth = admitted(operand.depth)?;
             stack.depth_over(0, depth)
         }

@@ -3,27 +3,22 @@ ghost use Rattle.std.specs.Prelude.{◌≡◌, ◌≤◌, IfOk};
 ghost use Rattle.vt_lex.specs.declared.token.TokenKind.TheVariants.{Dim};
 ghost use Rattle.vt_lex.specs.Spans.{IsSpanIn, BeginsWithAt};
 ghost use Rattle.vt_syntax.specs.Spelling.{most_depth};
-ghost use Rattle.vt_parse.specs.declared.start.Opening.TheVariants.{Choice};
-ghost use Rattle.vt_parse.specs.Words.{start_of, operator_of};
+ghost use Rattle.vt_grammar.specs.declared.start.Opening.TheVariants.{Choice};
+ghost use Rattle.vt_grammar.specs.Words.{start_of, operator_of};
 ghost use Rattle.vt_parse.specs.Reading.{is_operand};
-ghost use Rattle.vt_parse.specs.Machine.{await, join, argument, follow, continue, step, depth_over, need};
+ghost use Rattle.vt_grammar.specs.Machine.{await, join, argument, follow, continue, step, depth_over, need};
 
 use crate::beginning::{begin, want};
 use crate::ending::end_at;
-use crate::frame::{Frame, Place};
-use crate::mark::Mark;
-use crate::moving::place_after;
-use crate::operand::Operand;
-use crate::reader::Reader;
+use crate::moving::after_mark;
 use crate::reduce::reduce;
-use crate::start::Start;
-use crate::words::{mark_of, operator_of, same_mark, start_of};
 use std::alloc::{AllocError, Global};
+use vt_grammar::{Frame, Mark, Next, Operand, Reader, Start, mark_of, operator_of, start_of};
 use vt_lex::{Span, Token};
 use vt_syntax::{Op, left_level};
 
 /// The reader after this token, if some program goes on with it.
-pub fn step(
+pub(crate) fn step(
     alloc: Global,
     text: &str,
     reader: Reader,
@@ -44,12 +39,12 @@ pub fn step(
         defs,
         deepest,
         stack,
-        next: Place::Wanted,
+        next: Next::Wanted,
     };
     match next {
-        Place::Wanted => want(alloc, text, token, reader),
-        Place::Awaits(mark) => Ok(await_mark(mark, mark_of(token.kind), reader)),
-        Place::Read(operand) => continue_with(alloc, text, token, reader, operand),
+        Next::Wanted => want(alloc, text, token, reader),
+        Next::Awaits(mark) => Ok(await_mark(mark, mark_of(token.kind), reader)),
+        Next::Read(operand) => continue_with(alloc, text, token, reader, operand),
     }
 }
 
@@ -63,8 +58,8 @@ fn await_mark(mark: Mark, found: Option<Mark>, reader: Reader) -> Option<Reader>
             None
         }
         Some(found) => {
-            if same_mark(mark, found) {
-                Some(reader.placed(place_after(mark)))
+            if mark.is_same(found) {
+                Some(reader.placed(after_mark(mark)))
             } else {
                 drop(reader);
                 None
@@ -158,7 +153,7 @@ fn join(
     match reduce(alloc, left_level(op), &mut reader.stack, operand) {
         Ok(left) => {
             if reader.stack.may_join(op) {
-                Ok(Some(reader.opened(Frame::Joint(op, at, left), Place::Wanted)?))
+                Ok(Some(reader.opened(Frame::Joint(op, at, left), Next::Wanted)?))
             } else {
                 drop(reader);
                 drop(left);

@@ -1,4 +1,4 @@
-use Rattle.vt_parse.proofs.DepthLemmas.{over-fits}
+use Rattle.vt_grammar.proofs.DepthLemmas.{over-fits}
 use Rattle.vt_parse.proofs.ending.enclose.Goals as goal
 
 pub enclosed-requires : goal.enclosed-requires

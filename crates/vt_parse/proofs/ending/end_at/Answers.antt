@@ -1,4 +1,4 @@
-use Rattle.vt_parse.proofs.ReduceLemmas.{reduce-depth}
+use Rattle.vt_grammar.proofs.ReduceLemmas.{reduce-depth}
 use Rattle.vt_parse.proofs.StepLemmas.{answers-as, reduced-admitted, end-reduced}
 use Rattle.vt_parse.proofs.ending.end_at.Goals as goal
 

@@ -1,4 +1,4 @@
-use Rattle.vt_parse.proofs.DepthLemmas.{over-fits}
+use Rattle.vt_grammar.proofs.DepthLemmas.{over-fits}
 use Rattle.vt_parse.proofs.ending.paren_mark.Goals as goal
 
 pub wrapped-whole-requires : goal.wrapped-whole-requires

@@ -1,6 +1,6 @@
 use Rattle.std.proofs.Common.{subst}
 use Rattle.std.specs.Prelude.{Option}
-use Rattle.vt_parse.specs.Machine.{State}
+use Rattle.vt_grammar.specs.Machine.{State}
 use Rattle.vt_parse.specs.Reading.{IsOutcome}
 use Rattle.vt_parse.proofs.parsing.advance.Goals as goal
 

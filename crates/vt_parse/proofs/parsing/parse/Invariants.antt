@@ -1,5 +1,5 @@
 use Rattle.std.proofs.Common.{take}
-use Rattle.vt_parse.specs.States.{IsReached}
+use Rattle.vt_grammar.specs.States.{IsReached}
 use Rattle.vt_parse.proofs.parsing.parse.Given as goal
 
 -- the tokens so far have been read

@@ -1,6 +1,6 @@
 use Rattle.std.proofs.Common.{◌≡◌, ◌≤◌, length}
 use Rattle.vt_syntax.specs.Spelling.{most_depth}
-use Rattle.vt_parse.specs.Machine.{reduce, depth_over}
+use Rattle.vt_grammar.specs.Machine.{reduce, depth_over}
 use Rattle.vt_parse.proofs.reduce.reduce.Given as goal
 
 -- what is left to close comes to the same, and is no deeper than is admitted

@@ -1,0 +1,5 @@
+pub mod Words
+pub mod Frames
+pub mod Seen
+pub mod Machine
+pub mod States
