@@ -16,7 +16,6 @@
 mod answers;
 mod cell_set;
 mod compare;
-mod half;
 mod life;
 mod named;
 mod next_binding;

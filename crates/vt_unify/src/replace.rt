@@ -4,7 +4,6 @@ ghost use Rattle.vt_unify.specs.Turns.{IsSplit};
 ghost use Rattle.vt_unify.specs.Pairs.{IsKnown, AreKnown, IsMore, equation_of, equations_in, pairs_of, region_of};
 ghost use Rattle.vt_unify.specs.Walks.{CanSplit};
 
-use crate::half::half;
 use crate::pairs::{Pair, Pairs};
 use std::alloc::AllocError;
 use vt_dec::{Context, Dim, Side};
@@ -25,8 +24,8 @@ pub(crate) fn push_halves<const N: usize>(
     ensures split { OnOk result (IsSplit N (equation_of whole.now pairs.old.narrowed.items pair.now) dim (equations_in whole.now pairs.old) (equations_in whole.now pairs.new)) }
 {
     let within = pairs.context(whole, pair);
-    let right = half(within, dim, Side::Right);
-    let left = half(within, dim, Side::Left);
+    let right = within.half(dim, Side::Right);
+    let left = within.half(dim, Side::Left);
     pairs.push_narrowed(pair, &right)?;
     pairs.push_narrowed(pair, &left)?;
     Ok(())

@@ -3,7 +3,6 @@ ghost use Rattle.std.specs.Prelude.{◌≡◌, ◌<◌, IfOk, IfSome, OnOk};
 ghost use Rattle.vt_store.specs.Stores.{cell_count};
 ghost use Rattle.vt_unify.specs.Samplings.{AreSamples, IsTurn};
 
-use crate::half::half;
 use std::alloc::AllocError;
 use vt_dec::{Context, Decision, Side};
 use vt_store::{CellId, Store};
@@ -73,8 +72,8 @@ fn turn<const N: usize>(
             Ok(())
         }
         Some(dim) => {
-            parts.push(half(part, dim, Side::Right))?;
-            parts.push(half(part, dim, Side::Left))?;
+            parts.push(part.half(dim, Side::Right))?;
+            parts.push(part.half(dim, Side::Left))?;
             Ok(())
         }
     }

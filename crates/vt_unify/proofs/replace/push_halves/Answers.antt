@@ -8,8 +8,8 @@ pub returns-clause-split : goal.returns-clause-split
 returns-clause-split g c = record {
   right = c.half-right.result;
   left = c.half-left.result;
-  narrows_right = subst (λ region. Narrows region c.args.dim Right c.half-right.result) c.context-within.ensures c.half-right.ensures;
-  narrows_left = subst (λ region. Narrows region c.args.dim Left c.half-left.result) c.context-within.ensures c.half-left.ensures;
+  narrows_right = subst (λ region. Narrows region c.args.dim Right c.half-right.result) c.context-within.ensures c.half-right.ensures.narrows;
+  narrows_left = subst (λ region. Narrows region c.args.dim Left c.half-left.result) c.context-within.ensures c.half-left.ensures.narrows;
   appended =
       two_more c.args.whole.now c.args.pairs.now.narrowed.items c.push_narrowed.new.self.narrowed.items c.push_narrowed-2.new.self.narrowed.items c.half-right.result c.half-left.result c.args.pairs.now.list.items
       c.push_narrowed.new.self.list.items c.push_narrowed-2.new.self.list.items c.args.pair.now c.requires.all_known c.in_ok-push_narrowed.ensures.narrowed c.in_ok-push_narrowed.ensures.list
