@@ -4,7 +4,7 @@ use Rattle.vt_lex.specs.declared.token.Token.{Token}
 use Rattle.vt_syntax.specs.declared.program.Program.{Program}
 use Rattle.vt_syntax.specs.Spelling.{SpellsIn, Begins, most_depth}
 use Rattle.vt_grammar.specs.Machine.{State, initial, step, run, need, finish}
-use Rattle.vt_grammar.specs.States.{IsReached}
+use Rattle.vt_grammar.specs.States.{IsAfter}
 use Rattle.vt_grammar.proofs.Running.{onward, run-append}
 use Rattle.vt_grammar.proofs.Backbone.{has_completion, spelled_is_read, need_rises}
 use Rattle.vt_grammar.proofs.ReduceLemmas.{finish-depth}
@@ -38,7 +38,7 @@ pub run-onto : (text : List ℕ) (ts : List Token) (t : Token) (s m : State) (o 
     → run text s ts ≡ Some m → step text m t ≡ o → run text s (ts ++ t ∷ []) ≡ o
 run-onto text ts t s m o e h = run-append text s ts (t ∷ []) ∙ ap (λ r. onward text r (t ∷ [])) e ∙ one-more text t m ∙ h
 
-pub reached-begins : (text : List ℕ) (ts : List Token) (s : State) → IsReached text ts s → Begins text most_depth ts
+pub reached-begins : (text : List ℕ) (ts : List Token) (s : State) → IsAfter text ts s → Begins text most_depth ts
 reached-begins text ts s r = let c = has_completion text ts s r.runs in (c.0, c.1, need s, c.2, r.admitted)
 
 -- each program that begins with tokens is read on from the state after them

@@ -1,13 +1,13 @@
 //! The reader's state, and the machine that it is a state of.
 //!
-//! The machine reads a list of tokens from left to right, with a stack of the constructs that are open:
-//! `specs/Machine.antt`. Read it first, after `specs/Words.antt` (what each kind of token can be) and
+//! The machine reads a list of tokens from left to right, with a stack of the constructs that are open.
+//! Read `specs/Machine.antt` first. It stands on `specs/Words.antt` (what each kind of token can be) and
 //! `specs/Frames.antt` (what each open construct waits for, what it becomes, and how deep it is).
 //!
-//! The layer above is promised that the machine reads what is spelled, and only that; that each state it
-//! comes to has a completion that is just as deep as `need` says; and that `need` never falls. These are
-//! lemmas about the definitions, listed in `proofs/Backbone.antt`. Of the state, a [`Reader`], each
-//! function here answers what the definition of its name says.
+//! The layer above is promised, by the lemmas that `proofs/Backbone.antt` lists, that the machine reads
+//! what is spelled and only that; that the tokens that lead to a state begin a program that is just as
+//! deep as `need` says; and that `need` never falls. A [`Reader`] is a state. Each function here answers
+//! what the definition of its name says.
 #![tactic(auto)]
 
 mod definitions;

@@ -1,5 +1,4 @@
 mod ParsedLemmas
 mod LawLemmas
-mod Counting
 mod ShutLemmas
 mod StepLemmas

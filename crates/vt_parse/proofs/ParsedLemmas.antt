@@ -6,7 +6,7 @@ use Rattle.vt_syntax.specs.declared.program.Program.{Program}
 use Rattle.vt_syntax.specs.Spelling.{SpellsProgram, SpellsIn, Begins, BeginsAny, most_depth}
 use Rattle.vt_grammar.specs.Machine.{State, initial, step, run, need, finish, Finished}
 use Rattle.vt_parse.specs.Answer.{BeginsNone, SpellsNone, IsUnexpected, IsTooDeep, IsParsed}
-use Rattle.vt_grammar.specs.States.{IsReached}
+use Rattle.vt_grammar.specs.States.{IsAfter}
 use Rattle.vt_grammar.proofs.Backbone.{read_is_spelled, has_completion, spelled_is_read}
 use Rattle.vt_grammar.proofs.ReduceLemmas.{finish-depth}
 use Rattle.vt_grammar.proofs.ReadOn.{run-split, run-one, run-onto, reached-begins, read-on}
@@ -50,23 +50,23 @@ no-end text ts s r e program depth p =
 
 -- a program at the end
 pub an-end : (text : List ℕ) (ts : List Token) (s : State) (program : Program) (depth : ℕ)
-    → IsReached text ts s → finish s ≡ Some (record { defs = program.defs; main = program.main; depth = depth })
+    → IsAfter text ts s → finish s ≡ Some (record { defs = program.defs; main = program.main; depth = depth })
     → (n : ℕ) × SpellsIn text ts program n × (n ≤ most_depth)
 an-end text ts s program depth r e =
     let d = finish-depth s (record { defs = program.defs; main = program.main; depth = depth }) e in
     let k = r.admitted in
     (depth, read_is_spelled text ts s (record { defs = program.defs; main = program.main; depth = depth }) r.runs e, omega arith)
 
-pub reached-first : (text : List ℕ) → IsReached text [] initial
+pub reached-first : (text : List ℕ) → IsAfter text [] initial
 reached-first text = record { runs = refl; admitted = omega arith }
 
 -- one token more
 module _ (text : List ℕ) (ts : List Token) (i : ℕ) (d : Token) (s : State)
-    (reached : IsReached text (take i ts) s) (within : i < length ts) where
+    (reached : IsAfter text (take i ts) s) (within : i < length ts) where
   longer : take (i + 1) ts ≡ take i ts ++ get_or ts i d ∷ []
   longer = take_more ts i d within
 
-  pub reached-next : (u : State) → step text s (get_or ts i d) ≡ Some u → need u ≤ most_depth → IsReached text (take (i + 1) ts) u
+  pub reached-next : (u : State) → step text s (get_or ts i d) ≡ Some u → need u ≤ most_depth → IsAfter text (take (i + 1) ts) u
   reached-next u e h = record { runs = ap (run text initial) longer ∙ (run-onto text (take i ts) (get_or ts i d) initial s (Some u) reached.runs e); admitted = h }
 
   pub stop-unexpected : step text s (get_or ts i d) ≡ None → IsUnexpected text ts i
@@ -79,9 +79,9 @@ module _ (text : List ℕ) (ts : List Token) (i : ℕ) (d : Token) (s : State)
       (within, reached-begins text (take i ts) s reached, d.0, d.1)
 
 -- all tokens
-pub reached-all : (text : List ℕ) (ts : List Token) (i : ℕ) (s : State) → length ts ≤ i → IsReached text (take i ts) s → IsReached text ts s
+pub reached-all : (text : List ℕ) (ts : List Token) (i : ℕ) (s : State) → length ts ≤ i → IsAfter text (take i ts) s → IsAfter text ts s
 reached-all text ts i s h r = rw (take_all i ts h) at r
 
 -- no program at the end of all tokens
-pub end-unexpected : (text : List ℕ) (ts : List Token) (s : State) → IsReached text ts s → finish s ≡ None → IsUnexpected text ts (length ts)
+pub end-unexpected : (text : List ℕ) (ts : List Token) (s : State) → IsAfter text ts s → finish s ≡ None → IsUnexpected text ts (length ts)
 end-unexpected text ts s r e = (rw (take_all (length ts) ts (omega arith)) (reached-begins text ts s r), inr (refl, no-end text ts s r.runs e))

@@ -4,3 +4,4 @@ pub mod SurfaceSeen
 pub mod CoreSeen
 pub mod Holing
 pub mod GreatestLemmas
+pub mod Counting

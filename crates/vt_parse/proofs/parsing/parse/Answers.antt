@@ -3,7 +3,7 @@ use Rattle.std.proofs.lemmas.List.Elements.{All-get_or}
 use Rattle.vt_lex.specs.declared.token.Token.{Token}
 use Rattle.vt_lex.specs.declared.token.TokenKind.TheVariants.{Number, Dim}
 use Rattle.vt_lex.specs.Spans.{IsSpanIn, BeginsWithAt}
-use Rattle.vt_parse.proofs.Counting.{few-program}
+use Rattle.vt_syntax.proofs.Counting.{few-program}
 use Rattle.vt_parse.proofs.ParsedLemmas.{reached-first, reached-next, reached-all, stop-unexpected, stop-deep, an-end, end-unexpected}
 use Rattle.vt_parse.proofs.parsing.parse.Goals as goal
 
