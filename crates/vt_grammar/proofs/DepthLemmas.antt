@@ -1,21 +1,9 @@
-use Rattle.std.proofs.Common.{◌≡◌, ℕ, suc, ◌+◌, ◌<◌, ◌≤◌, max, List, [], ◌∷◌, length, get_or, drop, refl, arith, drop-cons, add-one, sym, ◌∙◌, ap}
+use Rattle.std.proofs.Common.{◌≡◌, ℕ, ◌+◌, ◌<◌, ◌≤◌, max, List, [], ◌∷◌, length, get_or, drop, refl, arith, drop-cons, add-one, sym, ◌∙◌, ap}
 use Rattle.std.proofs.lemmas.List.{drop_all}
-use Rattle.std.specs.Prelude.{Bool, true, false, if◌then◌else◌, nat_le, Option, Some, None}
-use Rattle.vt_lex.specs.declared.span.Span.{Span}
-use Rattle.vt_syntax.specs.declared.expr.Op.{Op}
-use Rattle.vt_syntax.specs.Infixes.{level, infix_of}
+use Rattle.std.specs.Prelude.{Some}
 use Rattle.vt_grammar.specs.declared.operand.Operand.{Operand}
 use Rattle.vt_grammar.specs.declared.frame.Frame.{Frame}
-use Rattle.vt_grammar.specs.declared.frame.Frame.TheVariants as frame
-use Rattle.vt_grammar.specs.declared.frame.Tail.{Tail}
-use Rattle.vt_grammar.specs.declared.frame.Tail.TheVariants as tail
-use Rattle.vt_grammar.specs.declared.frame.Middle.{Middle}
-use Rattle.vt_grammar.specs.declared.frame.Middle.TheVariants as middle
-use Rattle.vt_grammar.specs.declared.frame.Right.{Right}
-use Rattle.vt_grammar.specs.declared.frame.Right.TheVariants as right
-use Rattle.vt_grammar.specs.declared.frame.Naming.{Naming}
-use Rattle.vt_grammar.specs.declared.frame.Naming.TheVariants as naming
-use Rattle.vt_grammar.specs.Frames.{both, closed, deeper, deeper_tail, deeper_middle, deeper_right, deeper_naming}
+use Rattle.vt_grammar.specs.Frames.{deeper}
 use Rattle.vt_grammar.specs.Machine.{shut, depth_over}
 
 -- How deep open constructs are.

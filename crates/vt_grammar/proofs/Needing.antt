@@ -1,4 +1,4 @@
-use Rattle.std.proofs.Common.{◌≡◌, ℕ, suc, ◌≤◌, max, Bool, true, false, List, [], ◌∷◌, ◌++◌, Option, Some, None, refl, sym, ap, subst, ◌∙◌, arith}
+use Rattle.std.proofs.Common.{◌≡◌, ℕ, suc, ◌≤◌, max, Bool, true, false, List, [], ◌∷◌, ◌++◌, Option, Some, None, refl, subst, arith}
 use Rattle.std.specs.Prelude.{if◌then◌else◌}
 use Rattle.std.proofs.lemmas.Option.{same_Some}
 use Rattle.vt_lex.specs.declared.span.Span.{Span}
@@ -27,7 +27,7 @@ use Rattle.vt_grammar.specs.declared.frame.Next.{Next}
 use Rattle.vt_grammar.specs.declared.frame.Next.TheVariants as ahead
 use Rattle.vt_grammar.specs.Words.{start_of, mark_of}
 use Rattle.vt_grammar.specs.Frames.{defined, leaf_at, opened, after_opening, stated, after_mark, awaited, passed, after_part, bracket, enclosed, with_name, mark_after_name, made_recursive, deeper_middle, deeper_right, deeper}
-use Rattle.vt_grammar.specs.Machine.{State, initial, moved, same_mark, shut, Reduced, reduce, may_join, pending, end_empty, define, begin, name_recursive, name, want, await, end_list, list_mark, paren_mark, end_part, end_at, argument, follow, continue, step, run, depth_over, depth_wanted, depth_at, need, finish_with, finish_at, finish, Finished}
+use Rattle.vt_grammar.specs.Machine.{State, initial, moved, same_mark, shut, Reduced, reduce, may_join, pending, end_empty, define, begin, name_recursive, name, want, await, end_list, list_mark, paren_mark, end_part, end_at, argument, follow, continue, step, run, depth_over, depth_wanted, depth_at, need}
 use Rattle.vt_grammar.proofs.Running.{after}
 use Rattle.vt_grammar.proofs.ReduceLemmas.{reduce-depth}
 

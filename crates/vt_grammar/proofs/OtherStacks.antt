@@ -1,4 +1,4 @@
-use Rattle.std.proofs.Common.{◌≡◌, ℕ, suc, max, List, [], ◌∷◌, refl, sym, ap, ◌∙◌}
+use Rattle.std.proofs.Common.{◌≡◌, ℕ, suc, max, List, [], ◌∷◌, refl, ap}
 use Rattle.std.specs.Prelude.{Option, Some, None, if◌then◌else◌}
 use Rattle.vt_lex.specs.declared.span.Span.{Span}
 use Rattle.vt_lex.specs.declared.token.Key.TheVariants.{RecKey}
@@ -18,7 +18,7 @@ use Rattle.vt_grammar.specs.declared.frame.Frame.TheVariants as frame
 use Rattle.vt_grammar.specs.declared.frame.Naming.{Naming}
 use Rattle.vt_grammar.specs.declared.frame.Next.{Next}
 use Rattle.vt_grammar.specs.declared.frame.Next.TheVariants as ahead
-use Rattle.vt_grammar.specs.Words.{start_of, operator_of, mark_of}
+use Rattle.vt_grammar.specs.Words.{start_of, mark_of}
 use Rattle.vt_grammar.specs.Machine.{State, Reduced, moved, same_mark, reduce, name_recursive, name, end_list, list_mark, end_part, end_at, follow, continue}
 
 -- What the machine does with the stack that it is handed depends on no other stack.

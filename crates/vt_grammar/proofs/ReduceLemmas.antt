@@ -4,7 +4,7 @@ use Rattle.vt_grammar.specs.declared.operand.Operand.{Operand}
 use Rattle.vt_grammar.specs.declared.frame.Frame.{Frame}
 use Rattle.vt_grammar.specs.declared.frame.Next.{Next}
 use Rattle.vt_grammar.specs.declared.frame.Next.TheVariants as ahead
-use Rattle.vt_grammar.specs.Machine.{State, Reduced, Finished, shut, reduce, depth_over, depth_at, need, finish, finish_at, finish_with}
+use Rattle.vt_grammar.specs.Machine.{State, Finished, shut, reduce, depth_over, depth_at, need, finish, finish_at, finish_with}
 use Rattle.vt_grammar.proofs.DepthLemmas.{shut-depth}
 use Rattle.vt_grammar.proofs.Running.{after}
 

@@ -1,7 +1,7 @@
 use Rattle.std.proofs.Common.{◌≡◌, ℕ, ◌<◌, ◌≤◌, ◌⊎◌, true, List, [], ◌∷◌, ◌++◌, Option, Some, None, refl, sym, ap, ◌∙◌, arith}
 use Rattle.std.specs.Prelude.{if◌then◌else◌}
 use Rattle.std.proofs.lemmas.Bool.Decides.{leb_tells}
-use Rattle.std.proofs.lemmas.Bool.{le-leb, lt-leb}
+use Rattle.std.proofs.lemmas.Bool.{le-leb}
 use Rattle.vt_lex.specs.declared.span.Span.{Span}
 use Rattle.vt_lex.specs.declared.token.Token.{Token}
 use Rattle.vt_syntax.specs.declared.expr.Op.{Op}
@@ -11,10 +11,9 @@ use Rattle.vt_grammar.specs.declared.operand.Operand.{Operand}
 use Rattle.vt_grammar.specs.declared.mark.Mark.{Mark}
 use Rattle.vt_grammar.specs.declared.frame.Frame.{Frame}
 use Rattle.vt_grammar.specs.declared.frame.Frame.TheVariants as frame
-use Rattle.vt_grammar.specs.declared.frame.Tail.{Tail}
 use Rattle.vt_grammar.specs.declared.frame.Next.TheVariants as ahead
 use Rattle.vt_grammar.specs.Words.{start_of, operator_of}
-use Rattle.vt_grammar.specs.Frames.{operand_of, both, closed}
+use Rattle.vt_grammar.specs.Frames.{operand_of, both}
 use Rattle.vt_grammar.specs.Machine.{State, moved, Reduced, shut, reduce, may_join, may_state, pending, join, begin, want, continue, end_at, end_part, step, run}
 
 -- How the machine runs over one list and then another, and how operands close what is open.

@@ -1,13 +1,12 @@
-use Rattle.std.proofs.Common.{◌≡◌, ◌≢◌, ℕ, suc, ◌+◌, ◌-◌, ◌<◌, ◌≤◌, ◌⊎◌, inl, inr, List, [], ◌∷◌, ◌++◌, length, take, drop, refl, sym, ap, ◌∙◌, arith, append_assoc}
-use Rattle.std.specs.Prelude.{Option, Some, None, Result, Ok, Err}
+use Rattle.std.proofs.Common.{◌≡◌, ℕ, ◌+◌, ◌<◌, ◌≤◌, inl, inr, List, ◌++◌, length, take, drop, refl, sym, ap, ◌∙◌, arith, append_assoc}
+use Rattle.std.specs.Prelude.{Some, Ok, Err}
 use Rattle.std.proofs.lemmas.List.{take-append-drop, take-take}
 use Rattle.vt_lex.specs.declared.token.Token.{Token}
 use Rattle.vt_syntax.specs.declared.program.Program.{Program}
-use Rattle.vt_syntax.specs.Spelling.{SpellsIn, Begins, BeginsAny, most_depth}
-use Rattle.vt_parse.specs.declared.fault.ParseFault.{ParseFault}
+use Rattle.vt_syntax.specs.Spelling.{SpellsIn, Begins, most_depth}
 use Rattle.vt_parse.specs.declared.fault.ParseFault.TheVariants.{Unexpected, TooDeep, Memory}
-use Rattle.vt_grammar.specs.Machine.{State, initial, run, need, finish, Finished}
-use Rattle.vt_parse.specs.Answer.{BeginsNone, SpellsNone, IsUnexpected, IsTooDeep, IsParsed}
+use Rattle.vt_grammar.specs.Machine.{need, Finished}
+use Rattle.vt_parse.specs.Answer.{IsUnexpected, IsTooDeep}
 use Rattle.vt_parse.specs.Laws.{HasOneProgram, IsAdmittedIfBegun, HasLeastDepth, HasOneAnswer}
 use Rattle.vt_grammar.proofs.Backbone.{has_completion, spelled_is_read}
 use Rattle.vt_grammar.proofs.ReduceLemmas.{finish-depth}

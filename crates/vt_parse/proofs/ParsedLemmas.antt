@@ -1,11 +1,11 @@
-use Rattle.std.proofs.Common.{◌≡◌, ℕ, suc, ◌+◌, ◌<◌, ◌≤◌, ◌⊎◌, inl, inr, List, [], ◌∷◌, ◌++◌, length, take, drop, get_or, refl, sym, ap, ◌∙◌, arith, append_assoc, append-nil}
-use Rattle.std.specs.Prelude.{Option, Some, None}
+use Rattle.std.proofs.Common.{◌≡◌, ℕ, ◌+◌, ◌<◌, ◌≤◌, inl, inr, List, [], ◌∷◌, ◌++◌, length, take, get_or, refl, sym, ap, ◌∙◌, arith}
+use Rattle.std.specs.Prelude.{Some, None}
 use Rattle.std.proofs.lemmas.List.{take_more, take_all}
 use Rattle.vt_lex.specs.declared.token.Token.{Token}
 use Rattle.vt_syntax.specs.declared.program.Program.{Program}
-use Rattle.vt_syntax.specs.Spelling.{SpellsProgram, SpellsIn, Begins, BeginsAny, most_depth}
-use Rattle.vt_grammar.specs.Machine.{State, initial, step, run, need, finish, Finished}
-use Rattle.vt_parse.specs.Answer.{BeginsNone, SpellsNone, IsUnexpected, IsTooDeep, IsParsed}
+use Rattle.vt_syntax.specs.Spelling.{SpellsIn, Begins, BeginsAny, most_depth}
+use Rattle.vt_grammar.specs.Machine.{State, initial, step, run, need, finish}
+use Rattle.vt_parse.specs.Answer.{BeginsNone, SpellsNone, IsUnexpected, IsTooDeep}
 use Rattle.vt_grammar.specs.States.{IsAfter}
 use Rattle.vt_grammar.proofs.Backbone.{read_is_spelled, has_completion, spelled_is_read}
 use Rattle.vt_grammar.proofs.ReduceLemmas.{finish-depth}

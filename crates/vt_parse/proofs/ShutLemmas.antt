@@ -1,5 +1,5 @@
-use Rattle.std.proofs.Common.{◌≡◌, ℕ, ◌≤◌, Bool, true, false, List, [], ◌∷◌, refl, sym, subst, arith}
-use Rattle.std.specs.Prelude.{Option, Some, None, Result, Ok, Err, IfOk, if◌then◌else◌}
+use Rattle.std.proofs.Common.{◌≡◌, ℕ, ◌≤◌, false, List, [], ◌∷◌, refl, sym, subst, arith}
+use Rattle.std.specs.Prelude.{Option, Some, None, Result, Ok, Err, IfOk}
 use Rattle.std.specs.declared.alloc.AllocError.{AllocError}
 use Rattle.vt_lex.specs.declared.span.Span.{Span}
 use Rattle.vt_syntax.specs.declared.expr.Op.{Op}
@@ -10,7 +10,7 @@ use Rattle.vt_grammar.specs.declared.frame.Frame.TheVariants as frame
 use Rattle.vt_grammar.specs.declared.frame.Tail.{Tail}
 use Rattle.vt_grammar.specs.Frames.{both, closed, deeper}
 use Rattle.vt_grammar.specs.Seen.{closes, is_innermost}
-use Rattle.vt_grammar.specs.Machine.{Reduced, shut, reduce, depth_over}
+use Rattle.vt_grammar.specs.Machine.{shut, reduce, depth_over}
 use Rattle.vt_grammar.proofs.DepthLemmas.{depth_over-grows, shut-depth}
 use Rattle.vt_parse.specs.Reading.{IsShut}
 

@@ -1,18 +1,15 @@
 use Rattle.std.proofs.Common.{◌≡◌, ℕ, suc, ◌+◌, ◌≤◌, ◌<◌, max, Bool, true, false, List, [], ◌∷◌, refl, sym, ap, subst, ◌∙◌, arith, add-one}
-use Rattle.std.specs.Prelude.{Option, Some, None, Result, Ok, Err, IfOk, IsTrue, is_some, if◌then◌else◌}
+use Rattle.std.specs.Prelude.{Option, Some, None, Result, Ok, Err, IfOk, IsTrue, is_some}
 use Rattle.std.specs.declared.alloc.AllocError.{AllocError}
 use Rattle.vt_lex.specs.declared.span.Span.{Span}
-use Rattle.vt_lex.specs.declared.token.Key.TheVariants.{RecKey}
 use Rattle.vt_lex.specs.declared.token.TokenKind.{TokenKind}
 use Rattle.vt_lex.specs.declared.token.TokenKind.TheVariants as kind
 use Rattle.vt_lex.specs.declared.token.Token.{Token}
-use Rattle.vt_syntax.specs.declared.expr.Op.{Op}
 use Rattle.vt_syntax.specs.declared.expr.Exprs.{Exprs}
 use Rattle.vt_syntax.specs.declared.expr.ExprForm as form
 use Rattle.vt_syntax.specs.declared.program.Def.{Def}
 use Rattle.vt_syntax.specs.declared.program.Program.{Program}
 use Rattle.vt_syntax.specs.SurfaceTrees.{exprs}
-use Rattle.vt_syntax.specs.Infixes.{left_level, infix_of}
 use Rattle.vt_syntax.specs.Spelling.{part, across, most_depth}
 use Rattle.vt_grammar.specs.declared.operand.Operand.{Operand}
 use Rattle.vt_grammar.specs.declared.mark.Mark.{Mark}
@@ -27,10 +24,10 @@ use Rattle.vt_grammar.specs.declared.frame.Next.TheVariants as ahead
 use Rattle.vt_grammar.specs.Words.{start_of, operator_of, mark_of}
 use Rattle.vt_grammar.specs.Frames.{operand_of, deeper, IsAdmitted}
 use Rattle.vt_grammar.specs.Seen.{square_of, element_of, naming_of, is_list, innermost, is_innermost}
-use Rattle.vt_grammar.specs.Machine.{State, Reduced, moved, reduce, may_join, join, argument, end_empty, begin, want, name, end_list, list_mark, end_part, end_at, follow, continue, step, step_at, await, depth_over, depth_at, need, finish, finish_reduced, finish_with}
+use Rattle.vt_grammar.specs.Machine.{State, Reduced, moved, reduce, join, argument, end_empty, begin, want, name, end_list, list_mark, end_part, end_at, follow, continue, step, step_at, await, depth_over, depth_at, need, finish_reduced, finish_with}
 use Rattle.vt_parse.specs.Reading.{is_operand, IsFinishedWith, IsFinished}
 use Rattle.vt_grammar.proofs.DepthLemmas.{depth_over-grows}
-use Rattle.vt_grammar.proofs.OtherStacks.{name-moved, end_list-moved, list_mark-moved, end_part-moved, continue-moved}
+use Rattle.vt_grammar.proofs.OtherStacks.{name-moved, end_list-moved, end_part-moved, continue-moved}
 
 -- What each function of the reader does is what the machine does.
 

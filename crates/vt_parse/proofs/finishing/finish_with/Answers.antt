@@ -1,5 +1,3 @@
-use Rattle.std.proofs.Common.{refl, ap, sym, ◌∙◌}
-use Rattle.vt_syntax.specs.declared.program.Program.{Program}
 use Rattle.vt_parse.proofs.StepLemmas.{ended-here, ended-not}
 use Rattle.vt_parse.proofs.finishing.finish_with.Goals as goal
 

@@ -1,4 +1,3 @@
-use Rattle.vt_syntax.specs.Spelling.{most_depth}
 use Rattle.vt_grammar.specs.Machine.{need}
 use Rattle.vt_parse.proofs.StepLemmas.{need-refused}
 use Rattle.vt_parse.proofs.parsing.outcome_of.Goals as goal
