@@ -1,4 +1,3 @@
-pub mod Laws
 pub mod Places
 pub mod Numbered
 pub mod Steps

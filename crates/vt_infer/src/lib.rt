@@ -3,9 +3,8 @@
 //! [`infer`] gives them: one pass over a program in the core, at every decision of a space at once. What it
 //! finds out is in `specs/Inferred.antt`; read it first, and then `inference.rt`, `definitions.rt` and
 //! `expression.rt`. An expression is looked at once, whatever the number of decisions; `specs/Inferring.antt`
-//! says what that does to the cells at one decision. What holds of the definitions of `vt_rules` alone is
-//! stated as contracts of functions that do nothing: laws about all programs in `laws`, and what the
-//! definitions say of small programs in `witnesses`.
+//! says what that does to the cells at one decision. What holds of the typing rules alone is passed on from
+//! `vt_rules`: laws about all programs in `laws`, and what the rules say of small programs in `witnesses`.
 #![tactic(auto)]
 
 mod constant;
@@ -14,15 +13,14 @@ pub mod environment;
 pub mod expression;
 mod inference;
 mod joining;
-pub mod laws;
 mod naming;
 mod steps;
 #[cfg(test)]
 mod tests;
 mod typed;
 mod variables;
-pub mod witnesses;
 pub mod work;
 
 pub use inference::infer;
 pub use typed::{Marks, Schemes, Typed};
+pub use vt_rules::{laws, witnesses};

@@ -8,4 +8,5 @@ pub mod Failing
 pub mod Changes
 pub mod Generalising
 pub mod Examples
+pub mod Laws
 pub mod Witnesses

@@ -1,5 +1,0 @@
-use Rattle.vt_rules.proofs.GeneralisingIsTyping.{typed_with_schemes}
-use Rattle.vt_infer.proofs.laws.schemes_are_typed.Goals as goal
-
-pub returns : goal.returns
-returns c K e type d = typed_with_schemes K e type d

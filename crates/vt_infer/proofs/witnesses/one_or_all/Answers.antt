@@ -1,5 +1,0 @@
-use Rattle.vt_rules.proofs.MeaningExamples.{one_or_all-means}
-use Rattle.vt_infer.proofs.witnesses.one_or_all.Goals as goal
-
-pub returns : goal.returns
-returns c = one_or_all-means

@@ -1,5 +1,0 @@
-use Rattle.vt_rules.proofs.Untyped.{self_application-untyped}
-use Rattle.vt_infer.proofs.witnesses.self_application.Goals as goal
-
-pub returns : goal.returns
-returns c = self_application-untyped

@@ -1,5 +1,0 @@
-use Rattle.vt_rules.proofs.Untyped.{unused_error-untyped}
-use Rattle.vt_infer.proofs.witnesses.unused_error.Goals as goal
-
-pub returns : goal.returns
-returns c = unused_error-untyped

@@ -1,5 +1,0 @@
-use Rattle.vt_rules.proofs.ChangeExamples.{wrong_use-change}
-use Rattle.vt_infer.proofs.witnesses.wrong_use.Goals as goal
-
-pub returns : goal.returns
-returns c = wrong_use-change
