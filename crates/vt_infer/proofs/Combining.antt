@@ -110,11 +110,3 @@ module _ (K : List Constant) (places : List Place) (e : Core) (first last : ℕ)
   -- an expression, and then a cell of the same type
   pub steps-same : (n m l : ℕ) (A B C : Solutions) (result same : ℕ) → Steps K n m A B result places e first last fate → Adds m l B C same (λ s type. type ≡ s result) → Steps K n l A C same places e first last fate
   steps-same = same_after K places e first last fate
-
--- what an entry means it means later
-pub poly-later : (K : List Constant) (n m : ℕ) (A B : Solutions) (allows : List Plain → Plain → Type 0) (originals : List ℕ) (place : Place) (places : List Place)
-    → Keeps n m A B → IsPoly K n A allows originals place places → IsPoly K m B allows originals place places
-poly-later K n m A B allows originals place places k h = record {
-  cells = λ i d within. omega (arith, h.cells i d within, k.grows);
-  exactly = λ s b. h.exactly s (k.old s b);
-}

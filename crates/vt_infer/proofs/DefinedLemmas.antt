@@ -23,17 +23,6 @@ use Rattle.vt_infer.proofs.KnownLemmas.{are_meant}
 -- A definition, from its expression.
 
 module _ (N : ℕ) (K : List Constant) (region : Region) (def : CoreDef) (old : Work N) (h : IsDefinable N K region def old) where
-  -- the expression of a definition that is not recursive
-  pub plain_ready : def.recursive ≡ false → IsReady N K region def.body.form old
-  plain_ready is = record {
-    table = h.table;
-    space = h.space;
-    pattern_space = h.pattern_space;
-    held = h.held;
-    scoped = subst (IsBodyScoped (length old.environment) def) is h.scoped;
-    constants = h.constants;
-    dims = h.dims;
-  }
 
   pub plain_defined : def.recursive ≡ false → (result : ℕ) (new : Work N) → IsExpressed N K region def.body result old new → IsDefined N K region def result old new
   plain_defined is result new e = record {

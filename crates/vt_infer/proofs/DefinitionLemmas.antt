@@ -25,10 +25,6 @@ pub nested-append : (defs more : List CoreDef) (rest : Core) → nested (defs ++
 nested-append [] more rest = refl
 nested-append (def ∷ defs) more rest = ap (λ inner. core def.node def.name_span (binding def def.recursive inner)) (nested-append defs more rest)
 
-pub env-append : (env : Env) (defs more : List CoreDef) → env_after env (defs ++ more) ≡ env_after (env_after env defs) more
-env-append env [] more = refl
-env-append env (def ∷ defs) more = env-append (env_with env def) defs more
-
 pub places-append : (places : List Place) (defs more : List CoreDef) → places_after places (defs ++ more) ≡ places_after (places_after places defs) more
 places-append places [] more = refl
 places-append places (def ∷ defs) more = places-append (place_of def ∷ places) defs more
@@ -97,10 +93,6 @@ module _ (K : List Constant) where
   well_formed-with : (env : Env) (def : CoreDef) (recursive : Bool) → IsWellFormedEnv env → IsWellFormedEnv (env ▸ entry_with env def recursive)
   well_formed-with env def false h = (h, h)
   well_formed-with env def true h = (h, h)
-
-  pub well_formed-after : (env : Env) (defs : List CoreDef) → IsWellFormedEnv env → IsWellFormedEnv (env_after env defs)
-  well_formed-after env [] h = h
-  well_formed-after env (def ∷ defs) h = well_formed-after (env_with env def) defs (well_formed-with env def def.recursive h)
 
   -- What follows definitions has a type with them exactly where they have types and it has it in their environment.
   pub chain_typed : (env : Env) (defs : List CoreDef) (rest : Core) (type : Plain) → Ty K env (nested defs rest) type → AreTyped K env defs × Ty K (env_after env defs) rest type

@@ -19,13 +19,14 @@ use Rattle.vt_store.specs.Stores.{cell_count}
 use Rattle.vt_store.specs.Writes.{IsOf}
 use Rattle.vt_scheme.specs.declared.scheme.Scheme.{Scheme}
 use Rattle.vt_scheme.specs.Schemes.{AreCells, IsFrozen}
+use Rattle.vt_infer.specs.declared.environment.Entry.{Entry}
 use Rattle.vt_infer.specs.declared.typed.Typed.{Typed}
 use Rattle.vt_infer.specs.declared.work.Work.{Work}
 use Rattle.vt_infer.specs.Definitions.{places_after}
-use Rattle.vt_infer.specs.Environments.{IsHeld, mono_cells}
+use Rattle.vt_infer.specs.Environments.{IsHeld, mono_cells, schemes_of}
 use Rattle.vt_infer.specs.Inferred.{IsInferred, IsPartAt, AreMarks, chosen}
-use Rattle.vt_infer.specs.Inferring.{IsReady, IsExpressed, solutions_at}
-use Rattle.vt_infer.specs.Parts.{Covers, HasSolutions, IsClosedForm, IsReachedAt, IsReached, IsStarted, defs_at}
+use Rattle.vt_infer.specs.Inferring.{IsReady, IsExpressed, IsGeneralised, solutions_at}
+use Rattle.vt_infer.specs.Parts.{Covers, HasSolutions, IsClosedForm, IsReachedAt, IsReached, IsStarted, defs_at, typed_of}
 use Rattle.vt_infer.proofs.FinishedLemmas.{reached_first, finish, main_reads, IsFinishedAt}
 use Rattle.vt_infer.proofs.KnownLemmas.{are_meant}
 
@@ -48,7 +49,7 @@ whole_covers N space region is =
     subst (λ r. Covers N r r.space) (sym is) (λ decision of. record { agrees = agrees_with_none (64 * N) decision of.sized; in_space = of.inside })
 
 pub reached_start : (N : ℕ) (K : List Constant) (core : CoreProgram) (space : Space) (work : Work N) → IsStarted N space work → IsClosed (length K) (64 * N) core → IsInCheckingOrder core
-    → IsReached N K core space 0 work [] []
+    → IsReached N K core space 0 work []
 reached_start N K core space work h closed order = record {
   store_space = h.store_space;
   pattern_space = h.pattern_space;
@@ -56,27 +57,27 @@ reached_start N K core space work h closed order = record {
   names = ap length h.environment;
   monos = ap mono_cells h.environment;
   closed = (closed.names, closed.constants_are, closed.dims_are);
-  scheme_count = refl;
-  schemes_are = λ i d within. absurd (omega arith);
+  scheme_count = ap (λ entries. length (schemes_of entries)) h.environment;
+  schemes_are = subst (λ entries. All (λ scheme. (scheme.cells.space ≡ space) × AreCells scheme) (schemes_of entries)) (sym h.environment) (λ i d within. absurd (omega arith));
   marks_are = refl;
   at = λ decision of.
-      subst (λ entries. IsReachedAt K core 0 decision entries [] [] (fate_at work.pattern decision)) (sym h.environment)
+      subst (λ entries. IsReachedAt K core 0 decision entries (schemes_of entries) [] (fate_at work.pattern decision)) (sym h.environment)
       (subst (IsReachedAt K core 0 decision [] [] []) (sym (h.alive decision of)) (reached_first K core decision order closed.dims_are of.sized));
 }
 
--- the same where the space is that of the whole context, and of lists that are empty
-pub whole_space : (N : ℕ) (space : Space) (region : Region) → region ≡ record { sides = replicate (64 * N) None; space = space } → region.space ≡ space
+-- the same where the space is that of the whole context, and of a list that is empty
+whole_space : (N : ℕ) (space : Space) (region : Region) → region ≡ record { sides = replicate (64 * N) None; space = space } → region.space ≡ space
 whole_space N space region is = ap (λ r. r.space) is
 
 pub reached_begin : (N : ℕ) (K : List Constant) (core : CoreProgram) (space : Space) (region : Region) → region ≡ record { sides = replicate (64 * N) None; space = space }
-    → (work : Work N) (schemes : List (Scheme N)) (marks : List ℕ) → IsStarted N space work → IsClosed (length K) (64 * N) core → IsInCheckingOrder core → schemes ≡ [] → marks ≡ []
-    → IsReached N K core region.space 0 work schemes marks
-reached_begin N K core space region is work schemes marks h closed order no_schemes no_marks =
-    subst (λ s. IsReached N K core s 0 work schemes marks) (sym (whole_space N space region is))
-    (subst (λ list. IsReached N K core space 0 work list marks) (sym no_schemes) (subst (λ list. IsReached N K core space 0 work [] list) (sym no_marks) (reached_start N K core space work h closed order)))
+    → (work : Work N) (marks : List ℕ) → IsStarted N space work → IsClosed (length K) (64 * N) core → IsInCheckingOrder core → marks ≡ []
+    → IsReached N K core region.space 0 work marks
+reached_begin N K core space region is work marks h closed order no_marks =
+    subst (λ s. IsReached N K core s 0 work marks) (sym (whole_space N space region is))
+    (subst (λ list. IsReached N K core space 0 work list) (sym no_marks) (reached_start N K core space work h closed order))
 
 module _ (N : ℕ) (K : List Constant) (table : IsTable K) (region : Region) (core : CoreProgram) (covers : Covers N region region.space)
-    (work : Work N) (schemes : List (Scheme N)) (marks : List ℕ) (h : IsReached N K core region.space (length core.defs) work schemes marks) where
+    (work : Work N) (marks : List ℕ) (h : IsReached N K core region.space (length core.defs) work marks) where
   pub main_ready : IsReady N K region core.main.form work
   main_ready =
       let closed : IsClosedForm (length core.defs) (length K) (64 * N) core.main.form =
@@ -93,7 +94,20 @@ module _ (N : ℕ) (K : List Constant) (table : IsTable K) (region : Region) (co
       }
 
   module _ (main : ℕ) (new : Work N) (e : IsExpressed N K region core.main main work new) (solvable : HasSolutions N work.store) (solvable_after : HasSolutions N new.store)
-      (scheme : Scheme N) (frozen : IsFrozen N new.store [] main scheme) (mark : ℕ) (greatest : IsGreatest mark (numbers_of core.main)) where
+      (entries : List (Entry N)) (generalised : IsGeneralised N new.store main new.environment entries) (mark : ℕ) (greatest : IsGreatest mark (numbers_of core.main)) where
+    abbrev scheme : Scheme N
+    scheme = generalised.scheme
+
+    abbrev schemes : List (Scheme N)
+    schemes = schemes_of work.environment
+
+    frozen : IsFrozen N new.store [] main scheme
+    frozen = subst (λ monos. IsFrozen N new.store monos main scheme) (ap mono_cells e.environment ∙ h.monos) generalised.frozen
+
+    -- the scheme of the main expression comes last
+    all_are : schemes_of entries ≡ schemes ++ scheme ∷ []
+    all_are = ap schemes_of generalised.pushed ∙ ap (λ before. schemes_of before ++ scheme ∷ []) e.environment
+
     store_same : new.store.space ≡ region.space
     store_same = e.goes_on.space ∙ h.store_space
 
@@ -126,7 +140,7 @@ module _ (N : ℕ) (K : List Constant) (table : IsTable K) (region : Region) (co
     all_marks : AreMarks core (marks ++ mark ∷ [])
     all_marks = (mark, greatest, ap (λ list. list ++ mark ∷ []) (h.marks_are ∙ ap (map (λ d. d.node)) (take_all (length core.defs) core.defs (omega arith))))
 
-    pub inferred : IsInferred N K core region.space (record { store = new.store; pattern = new.pattern; main = main; schemes = schemes ++ scheme ∷ []; marks = marks ++ mark ∷ [] })
+    inferred : IsInferred N K core region.space (record { store = new.store; pattern = new.pattern; main = main; schemes = schemes ++ scheme ∷ []; marks = marks ++ mark ∷ [] })
     inferred = record {
       store_space = store_same;
       pattern_space = e.goes_on.pattern_space ∙ h.pattern_space;
@@ -141,9 +155,15 @@ module _ (N : ℕ) (K : List Constant) (table : IsTable K) (region : Region) (co
       parts = λ part it number decision scheme_is mark_is of. (known decision of).1 scheme (of_new decision of) frozen part it number scheme_is mark_is;
     }
 
-    -- the same of lists that are known by equations
-    pub inferred_as : (all : List (Scheme N)) (numbers : List ℕ) → all ≡ schemes ++ scheme ∷ [] → numbers ≡ marks ++ mark ∷ []
-        → IsInferred N K core region.space (record { store = new.store; pattern = new.pattern; main = main; schemes = all; marks = numbers })
-    inferred_as all numbers schemes_are marks_are =
-        subst (λ list. IsInferred N K core region.space (record { store = new.store; pattern = new.pattern; main = main; schemes = list; marks = numbers })) (sym schemes_are)
-        (subst (λ list. IsInferred N K core region.space (record { store = new.store; pattern = new.pattern; main = main; schemes = schemes ++ scheme ∷ []; marks = list })) (sym marks_are) inferred)
+    -- the same of what was found out, which is known by equations
+    pub inferred_as : (last : Work N) (numbers : List ℕ) → last.store ≡ new.store → last.pattern ≡ new.pattern → last.environment ≡ entries → numbers ≡ marks ++ mark ∷ []
+        → IsInferred N K core region.space (typed_of last numbers main)
+    inferred_as last numbers store pattern environment marks_are =
+        subst (IsInferred N K core region.space)
+        (sym (λ i. record { store = store i; pattern = pattern i; main = main; schemes = (ap schemes_of environment ∙ all_are) i; marks = marks_are i })) inferred
+
+-- what was found out in the whole context of a space
+pub inferred_in : (N : ℕ) (K : List Constant) (core : CoreProgram) (space : Space) (region : Region) → region ≡ record { sides = replicate (64 * N) None; space = space }
+    → (found typed : Typed N) → IsInferred N K core region.space found → typed ≡ found → IsInferred N K core space typed
+inferred_in N K core space region is found typed inferred same =
+    subst (λ s. IsInferred N K core s typed) (whole_space N space region is) (subst (IsInferred N K core region.space) (sym same) inferred)

@@ -34,5 +34,6 @@ pub mod Built
 pub mod Entries
 pub mod Joints
 pub mod MonoCells
+pub mod SchemeLists
 pub mod Uses
 pub mod AllLeft

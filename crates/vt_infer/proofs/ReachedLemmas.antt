@@ -63,7 +63,7 @@ added_part K core count part decision scheme it node mark fate same is equal h =
 
 module _ (N : ℕ) (K : List Constant) (table : IsTable K) (core : CoreProgram) (count : ℕ) (decision : List Side)
     (entries : List (Entry N)) (schemes : List (Scheme N)) (marks : List ℕ) (def : CoreDef) (is : slice_get core.defs count ≡ Some def)
-    (scheme own : Scheme N) (store : Cells) (root : ℕ) (of : IsOf N store.space decision) (frozen : IsFrozen N store [] root scheme) (own_frozen : IsFrozen N store [] root own)
+    (scheme : Scheme N) (store : Cells) (root : ℕ) (of : IsOf N store.space decision) (frozen : IsFrozen N store [] root scheme)
     (n : ℕ) (A : Solutions) (some : (s : ℕ → Plain) × A s) (other : (s : ℕ → Plain) × solutions_at store decision s)
     (scheme_count : length schemes ≡ count) (mark_count : length marks ≡ count) where
   abbrev defs : List CoreDef
@@ -94,10 +94,10 @@ module _ (N : ℕ) (K : List Constant) (table : IsTable K) (core : CoreProgram) 
       adds_types n (cell_count store) A (solutions_at store decision) root (λ s type. Gives K (env_at s (places_after [] done)) (place_of here) type) (Gives K (env_after Empty done) (place_of here)) steps some
       (λ s type. (subst (λ env. Gives K env (place_of here) type) (env-places s [] done), subst (λ env. Gives K env (place_of here) type) (sym (env-places s [] done))))
 
-  gives_all : (first : ℕ) → Steps first Alive → GivesAll K decision own (place_of here) (places_after [] done)
+  gives_all : (first : ℕ) → Steps first Alive → GivesAll K decision scheme (place_of here) (places_after [] done)
   gives_all first steps s type = (
-    λ allows. subst (λ env. Gives K env (place_of here) type) (sym (env-places s [] done)) ((cell_types first steps type).0 ((frozen_allows N store root own own_frozen decision of type).0 allows)),
-    λ gives. (frozen_allows N store root own own_frozen decision of type).1 ((cell_types first steps type).1 (subst (λ env. Gives K env (place_of here) type) (env-places s [] done) gives)),
+    λ allows. subst (λ env. Gives K env (place_of here) type) (sym (env-places s [] done)) ((cell_types first steps type).0 ((frozen_allows N store root scheme frozen decision of type).0 allows)),
+    λ gives. (frozen_allows N store root scheme frozen decision of type).1 ((cell_types first steps type).1 (subst (λ env. Gives K env (place_of here) type) (env-places s [] done) gives)),
   )
 
   scheme_types : (first : ℕ) → Steps first Alive → (type : Plain)
@@ -137,10 +137,10 @@ module _ (N : ℕ) (K : List Constant) (table : IsTable K) (core : CoreProgram) 
         subst (AreChecked K (done ++ here ∷ []) (suc def.node)) (sym (stays (λ e. absurd cc))) (next_dead K table done here first body node checked)
 
     all_known : (fate after : Fate) → (fate ≡ Alive → AreKnown K decision entries (places_after [] done)) → (fate ≡ Alive → Steps first after) → ((fate ≡ Alive → ⊥) → after ≡ fate)
-        → after ≡ Alive → AreKnown K decision (Poly own [] ∷ entries) (places_after [] (done ++ here ∷ []))
+        → after ≡ Alive → AreKnown K decision (Poly scheme [] ∷ entries) (places_after [] (done ++ here ∷ []))
     all_known Alive Alive known steps stays e =
-        subst (AreKnown K decision (Poly own [] ∷ entries)) (sym (places-append [] done (here ∷ [])))
-        (known_entry N K decision own here here.recursive (places_after [] done) (gives_all first (steps refl)), known refl)
+        subst (AreKnown K decision (Poly scheme [] ∷ entries)) (sym (places-append [] done (here ∷ [])))
+        (known_entry N K decision scheme here here.recursive (places_after [] done) (gives_all first (steps refl)), known refl)
     all_known Alive (Dead node) known steps stays e = absurd cc
     all_known (Dead node) after known steps stays e = let same = stays (λ h. absurd cc) in absurd cc
 
@@ -148,7 +148,7 @@ module _ (N : ℕ) (K : List Constant) (table : IsTable K) (core : CoreProgram) 
   pub reached_next : (fate after : Fate) → IsReachedAt K core count decision entries schemes marks fate
       → ((first : ℕ) → fate ≡ Alive → AreKnown K decision entries (places_after [] done) → AreBefore first (places_after [] done) → IsNumberedCore first here.body def.node → Steps first after)
       → ((fate ≡ Alive → ⊥) → after ≡ fate)
-      → IsReachedAt K core (suc count) decision (Poly own [] ∷ entries) (schemes ++ scheme ∷ []) (marks ++ def.node ∷ []) after
+      → IsReachedAt K core (suc count) decision (Poly scheme [] ∷ entries) (schemes ++ scheme ∷ []) (marks ++ def.node ∷ []) after
   reached_next fate after h make stays =
       let first = h.first in
       let numbers = two_numbered first here (nested (drop (suc count) defs) (core_at decision core.main)) h.last here.recursive
@@ -163,7 +163,7 @@ module _ (N : ℕ) (K : List Constant) (table : IsTable K) (core : CoreProgram) 
             (subst (AreBefore (suc def.node)) (sym (places-append [] done (here ∷ []))) (before_next first here (places_after [] done) body h.before here.recursive));
         numbered = numbers.1;
         checked = subst (λ list. AreChecked K list (suc def.node) after) (sym taken) (all_checked first body fate after h.checked steps stays);
-        known = λ alive. subst (λ list. AreKnown K decision (Poly own [] ∷ entries) (places_after [] list)) (sym taken) (all_known first body fate after h.known steps stays alive);
+        known = λ alive. subst (λ list. AreKnown K decision (Poly scheme [] ∷ entries) (places_after [] list)) (sym taken) (all_known first body fate after h.known steps stays alive);
         parts = λ part it mark scheme_is mark_is. by_place first body h.checked h.parts steps part it mark (last_or_before schemes scheme part it scheme_is) (last_or_before marks def.node part mark mark_is);
       }
     where

@@ -20,7 +20,7 @@ use Rattle.vt_scheme.specs.Schemes.{AreCells, IsFrozen}
 use Rattle.vt_infer.specs.declared.environment.Entry.{Entry}
 use Rattle.vt_infer.specs.declared.environment.Entry.TheVariants.{Mono, Poly}
 use Rattle.vt_infer.specs.declared.work.Work.{Work}
-use Rattle.vt_infer.specs.Environments.{IsHeld, mono_cells}
+use Rattle.vt_infer.specs.Environments.{IsHeld, mono_cells, schemes_of}
 use Rattle.vt_infer.specs.Inferring.{solutions_at}
 use Rattle.vt_infer.specs.Parts.{Covers, IsBodyScoped, IsDefinable, IsDefined, IsClosedForm, IsReachedAt, IsReached, IsAdded, defs_at}
 use Rattle.vt_infer.proofs.DefinitionLemmas.{places-cells}
@@ -36,8 +36,8 @@ closed_parts : (binders constants dims : ℕ) (def : CoreDef) (rest : Core) (rec
 closed_parts binders constants dims def rest false h = ((h.0.0, h.1.0, h.2.0), (h.0.1, h.1.1, h.2.1))
 closed_parts binders constants dims def rest true h = ((h.0.0, h.1.0, h.2.0), (h.0.1, h.1.1, h.2.1))
 
-module _ (N : ℕ) (K : List Constant) (table : IsTable K) (region : Region) (core : CoreProgram) (count : ℕ) (old : Work N) (schemes : List (Scheme N)) (marks : List ℕ)
-    (h : IsReached N K core region.space count old schemes marks) (def : CoreDef) (is : slice_get core.defs count ≡ Some def) where
+module _ (N : ℕ) (K : List Constant) (table : IsTable K) (region : Region) (core : CoreProgram) (count : ℕ) (old : Work N) (marks : List ℕ)
+    (h : IsReached N K core region.space count old marks) (def : CoreDef) (is : slice_get core.defs count ≡ Some def) where
   parts : (IsBodyScoped count def def.recursive × HasConstants (length K) def.body.form × HasDims (64 * N) def.body.form)
       × IsClosedForm (suc count) (length K) (64 * N) (nested (drop (suc count) core.defs) core.main).form
   parts =
@@ -55,7 +55,7 @@ module _ (N : ℕ) (K : List Constant) (table : IsTable K) (region : Region) (co
     dims = parts.0.2;
   }
 
-  module _ (covers : Covers N region region.space) (new : Work N) (after : List (Scheme N)) (later : List ℕ) (added : IsAdded N K region def old new schemes after marks later) where
+  module _ (covers : Covers N region region.space) (new : Work N) (later : List ℕ) (added : IsAdded N K region def old new marks later) where
     between : Work N
     between = added.between
 
@@ -65,40 +65,46 @@ module _ (N : ℕ) (K : List Constant) (table : IsTable K) (region : Region) (co
     no_monos : mono_cells added.between.environment ≡ []
     no_monos = ap mono_cells added.defined.environment ∙ h.monos
 
-    own_frozen : IsFrozen N added.between.store [] added.root added.own
-    own_frozen = subst (λ monos. IsFrozen N added.between.store monos added.root added.own) no_monos added.own_frozen
+    abbrev scheme : Scheme N
+    scheme = added.generalised.scheme
 
-    pushed : new.environment ≡ Poly added.own [] ∷ old.environment
-    pushed = added.pushed ∙ (λ i. Poly added.own (no_monos i) ∷ added.defined.environment i)
+    abbrev schemes : List (Scheme N)
+    schemes = schemes_of old.environment
+
+    frozen : IsFrozen N added.between.store [] added.root scheme
+    frozen = subst (λ monos. IsFrozen N added.between.store monos added.root scheme) no_monos added.generalised.frozen
+
+    pushed : new.environment ≡ Poly scheme [] ∷ old.environment
+    pushed = added.generalised.pushed ∙ (λ i. Poly scheme (no_monos i) ∷ added.defined.environment i)
 
     mark_count : length marks ≡ count
     mark_count = let less = slice_get_within core.defs count def is in ap length h.marks_are ∙ length-map (take count core.defs) (λ d. d.node) ∙ length-take-le count core.defs (omega arith)
 
-    at : (decision : List Side) → IsOf N region.space decision → IsReachedAt K core (suc count) decision (Poly added.own [] ∷ old.environment) (schemes ++ added.scheme ∷ []) (marks ++ def.node ∷ []) (fate_at added.between.pattern decision)
+    at : (decision : List Side) → IsOf N region.space decision → IsReachedAt K core (suc count) decision (Poly scheme [] ∷ old.environment) (schemes ++ scheme ∷ []) (marks ++ def.node ∷ []) (fate_at added.between.pattern decision)
     at decision of =
         let of_old = subst (λ space. IsOf N space decision) (sym h.store_space) of in
         let of_between = subst (λ space. IsOf N space decision) (sym store_same) of in
-        reached_next N K table core count decision old.environment schemes marks def is added.scheme added.own added.between.store added.root of_between added.frozen own_frozen
+        reached_next N K table core count decision old.environment schemes marks def is scheme added.between.store added.root of_between frozen
         (cell_count old.store) (solutions_at old.store decision) (added.solvable decision of_old) (added.solvable_after decision of_between) h.scheme_count mark_count
         (fate_at old.pattern decision) (fate_at added.between.pattern decision) (h.at decision of)
         (λ first alive known before body. added.defined.here decision of_old (covers decision of) alive _ first known (places-cells (cell_count old.store) [] (take count (defs_at decision core.defs)) tt refl).0 before body)
         (added.defined.dead decision of_old)
 
-    held : IsHeld added.between.store (Poly added.own [] ∷ old.environment)
+    held : IsHeld added.between.store (Poly scheme [] ∷ old.environment)
     held = (
-      (own_frozen.space, own_frozen.cells, sym own_frozen.count, λ i d within. absurd (omega arith)),
+      (frozen.space, frozen.cells, sym frozen.count, λ i d within. absurd (omega arith)),
       held-later old.store added.between.store old.environment added.defined.space added.defined.grows h.held,
     )
 
-    all_schemes : All (λ it. (it.cells.space ≡ region.space) × AreCells it) (schemes ++ added.scheme ∷ [])
+    all_schemes : All (λ it. (it.cells.space ≡ region.space) × AreCells it) (schemes ++ scheme ∷ [])
     all_schemes =
-        All-append (λ it. (it.cells.space ≡ region.space) × AreCells it) schemes (added.scheme ∷ []) h.schemes_are
-        (All-cons (λ it. (it.cells.space ≡ region.space) × AreCells it) added.scheme [] (added.frozen.space ∙ store_same, added.frozen.cells) (λ i d within. absurd (omega arith)))
+        All-append (λ it. (it.cells.space ≡ region.space) × AreCells it) schemes (scheme ∷ []) h.schemes_are
+        (All-cons (λ it. (it.cells.space ≡ region.space) × AreCells it) scheme [] (frozen.space ∙ store_same, frozen.cells) (λ i d within. absurd (omega arith)))
 
     all_marks : marks ++ def.node ∷ [] ≡ map (λ d. d.node) (take (suc count) core.defs)
     all_marks = ap (λ list. list ++ def.node ∷ []) h.marks_are ∙ sym (ap (map (λ d. d.node)) (take-at core.defs count def is) ∙ map-append (λ d. d.node) (take count core.defs) (def ∷ []))
 
-    next : IsReached N K core region.space (suc count) (record { store = added.between.store; pattern = added.between.pattern; environment = Poly added.own [] ∷ old.environment }) (schemes ++ added.scheme ∷ []) (marks ++ def.node ∷ [])
+    next : IsReached N K core region.space (suc count) (record { store = added.between.store; pattern = added.between.pattern; environment = Poly scheme [] ∷ old.environment }) (marks ++ def.node ∷ [])
     next = record {
       store_space = store_same;
       pattern_space = added.defined.pattern_space ∙ h.pattern_space;
@@ -106,18 +112,17 @@ module _ (N : ℕ) (K : List Constant) (table : IsTable K) (region : Region) (co
       names = ap suc h.names;
       monos = h.monos;
       closed = parts.1;
-      scheme_count = length-append schemes (added.scheme ∷ []) ∙ ap (λ n. n + 1) h.scheme_count ∙ add-one count;
+      scheme_count = length-append schemes (scheme ∷ []) ∙ ap (λ n. n + 1) h.scheme_count ∙ add-one count;
       schemes_are = all_schemes;
       marks_are = all_marks;
       at = at;
     }
 
-    same_work : record { store = added.between.store; pattern = added.between.pattern; environment = Poly added.own [] ∷ old.environment } ≡ new
+    same_work : record { store = added.between.store; pattern = added.between.pattern; environment = Poly scheme [] ∷ old.environment } ≡ new
     same_work i = record { store = sym added.store i; pattern = sym added.pattern i; environment = sym pushed i }
 
-    pub reached_added : IsReached N K core region.space (count + 1) new after later
+    pub reached_added : IsReached N K core region.space (count + 1) new later
     reached_added =
-        subst (λ n. IsReached N K core region.space n new after later) (sym (add-one count))
-        (subst (λ list. IsReached N K core region.space (suc count) new after list) (sym added.marks_are)
-        (subst (λ list. IsReached N K core region.space (suc count) new list (marks ++ def.node ∷ [])) (sym added.schemes_are)
-        (subst (λ work. IsReached N K core region.space (suc count) work (schemes ++ added.scheme ∷ []) (marks ++ def.node ∷ [])) same_work next)))
+        subst (λ n. IsReached N K core region.space n new later) (sym (add-one count))
+        (subst (λ list. IsReached N K core region.space (suc count) new list) (sym added.marks_are)
+        (subst (λ work. IsReached N K core region.space (suc count) work (marks ++ def.node ∷ [])) same_work next))

@@ -1,7 +1,8 @@
-use Rattle.std.specs.Prelude.{◌≡◌, ℕ, ◌<◌, List, [], ◌∷◌, length}
+use Rattle.std.specs.Prelude.{◌≡◌, ℕ, ◌<◌, List, [], ◌∷◌, ◌++◌, length}
 use Rattle.std.specs.List.{All}
 use Rattle.vt_dec.specs.declared.side.Side.{Side}
 use Rattle.vt_type.specs.Constants.{Constant}
+use Rattle.vt_scheme.specs.declared.scheme.Scheme.{Scheme}
 use Rattle.vt_scheme.specs.Schemes.{Allows, AreCells}
 use Rattle.vt_store.specs.Stores.{Cells, cell_count}
 use Rattle.vt_infer.specs.Places.{Place, At, Bound, Looped}
@@ -25,6 +26,12 @@ abbrev pub mono_cells : {N : ℕ} → List (Entry N) → List ℕ
 mono_cells [] = []
 mono_cells (Mono cell ∷ entries) = cell ∷ mono_cells entries
 mono_cells (Poly scheme originals ∷ entries) = mono_cells entries
+
+-- the schemes of the other names, in the order in which these were bound
+abbrev pub schemes_of : {N : ℕ} → List (Entry N) → List (Scheme N)
+schemes_of [] = []
+schemes_of (Mono cell ∷ entries) = schemes_of entries
+schemes_of (Poly scheme originals ∷ entries) = schemes_of entries ++ scheme ∷ []
 
 -- what an entry says of a name, at one decision and over a set of solutions, is what its place says
 abbrev pub IsMeant : {N : ℕ} → List Constant → ℕ → Solutions → List Side → Entry N → Place → List Place → Type 0

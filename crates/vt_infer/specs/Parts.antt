@@ -18,14 +18,15 @@ use Rattle.vt_store.specs.Patterns.{fate_at}
 use Rattle.vt_store.specs.Stores.{Cells, cell_count}
 use Rattle.vt_store.specs.Writes.{IsOf}
 use Rattle.vt_scheme.specs.declared.scheme.Scheme.{Scheme}
-use Rattle.vt_scheme.specs.Schemes.{Allows, AreCells, IsFrozen}
+use Rattle.vt_scheme.specs.Schemes.{Allows, AreCells}
 use Rattle.vt_infer.specs.declared.environment.Entry.{Entry}
 use Rattle.vt_infer.specs.declared.environment.Entry.TheVariants.{Mono, Poly}
+use Rattle.vt_infer.specs.declared.typed.Typed.{Typed}
 use Rattle.vt_infer.specs.declared.work.Work.{Work}
 use Rattle.vt_infer.specs.Definitions.{places_after, AreChecked, DefinitionSteps}
-use Rattle.vt_infer.specs.Environments.{IsHeld, mono_cells}
+use Rattle.vt_infer.specs.Environments.{IsHeld, mono_cells, schemes_of}
 use Rattle.vt_infer.specs.Inferred.{IsPartAt}
-use Rattle.vt_infer.specs.Inferring.{solutions_at}
+use Rattle.vt_infer.specs.Inferring.{IsGeneralised, solutions_at}
 use Rattle.vt_infer.specs.Numbered.{IsNumberedCore, AreBefore}
 use Rattle.vt_infer.specs.Places.{Place, At, Bound, Looped, env_at, HaveCells, Gives}
 
@@ -110,20 +111,20 @@ pub record IsReachedAt {N : ℕ} (K : List Constant) (core : CoreProgram) (count
       → (mark < first) × IsPartAt K core part decision scheme mark fate
 
 -- What is known after so many definitions.
-pub record IsReached (N : ℕ) (K : List Constant) (core : CoreProgram) (space : Space) (count : ℕ) (work : Work N) (schemes : List (Scheme N)) (marks : List ℕ) : Type 0 where
+pub record IsReached (N : ℕ) (K : List Constant) (core : CoreProgram) (space : Space) (count : ℕ) (work : Work N) (marks : List ℕ) : Type 0 where
   pub store_space : work.store.space ≡ space
   pub pattern_space : work.pattern.space ≡ space
   pub held : IsHeld work.store work.environment
   pub names : length work.environment ≡ count
   pub monos : mono_cells work.environment ≡ []
   pub closed : IsClosedForm count (length K) (64 * N) (nested (drop count core.defs) core.main).form
-  pub scheme_count : length schemes ≡ count
-  pub schemes_are : All (λ scheme. (scheme.cells.space ≡ space) × AreCells scheme) schemes
+  pub scheme_count : length (schemes_of work.environment) ≡ count
+  pub schemes_are : All (λ scheme. (scheme.cells.space ≡ space) × AreCells scheme) (schemes_of work.environment)
   pub marks_are : marks ≡ map (λ def. def.node) (take count core.defs)
-  pub at : (decision : List Side) → IsOf N space decision → IsReachedAt K core count decision work.environment schemes marks (fate_at work.pattern decision)
+  pub at : (decision : List Side) → IsOf N space decision → IsReachedAt K core count decision work.environment (schemes_of work.environment) marks (fate_at work.pattern decision)
 
--- One more definition: its cell, its scheme, its mark, and its name.
-pub record IsAdded (N : ℕ) (K : List Constant) (region : Region) (def : CoreDef) (old new : Work N) (schemes after : List (Scheme N)) (marks later : List ℕ) : Type 0 where
+-- One more definition: its cell, its mark, and its name with its scheme.
+pub record IsAdded (N : ℕ) (K : List Constant) (region : Region) (def : CoreDef) (old new : Work N) (marks later : List ℕ) : Type 0 where
   pub between : Work N
   pub root : ℕ
   pub defined : IsDefined N K region def root old between
@@ -131,13 +132,18 @@ pub record IsAdded (N : ℕ) (K : List Constant) (region : Region) (def : CoreDe
   pub solvable_after : HasSolutions N between.store
   pub store : new.store ≡ between.store
   pub pattern : new.pattern ≡ between.pattern
-  pub scheme : Scheme N
-  pub frozen : IsFrozen N between.store [] root scheme
-  pub schemes_are : after ≡ schemes ++ scheme ∷ []
+  pub generalised : IsGeneralised N between.store root between.environment new.environment
   pub marks_are : later ≡ marks ++ def.node ∷ []
-  pub own : Scheme N
-  pub own_frozen : IsFrozen N between.store (mono_cells between.environment) root own
-  pub pushed : new.environment ≡ Poly own (mono_cells between.environment) ∷ between.environment
+
+-- What was found out, with the schemes that the environment holds at the end.
+abbrev pub typed_of : {N : ℕ} → Work N → List ℕ → ℕ → Typed N
+typed_of work marks main = record {
+  store = work.store;
+  pattern = work.pattern;
+  main = main;
+  schemes = schemes_of work.environment;
+  marks = marks;
+}
 
 -- Nothing is known yet.
 pub record IsStarted (N : ℕ) (space : Space) (work : Work N) : Type 0 where

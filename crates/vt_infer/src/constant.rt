@@ -72,7 +72,7 @@ fn built_kids<P, const N: usize>(
     }
 }
 
-/// The cell of a variable, a new one where it has none.
+// The cell of a variable, a new one where it has none.
 fn variable<const N: usize>(
     name: &Path,
     store: &mut Store<N>,

@@ -8,11 +8,10 @@ use crate::expression::expression;
 use crate::joining::equate;
 use crate::naming::generalise;
 use crate::steps::open_cell;
-use crate::typed::{Marks, Schemes};
+use crate::typed::Marks;
 use crate::work::Work;
-use std::alloc::{AllocError, Global};
+use std::alloc::AllocError;
 use vt_dec::Context;
-use vt_scheme::freeze;
 use vt_store::laws::most_general_solution;
 use vt_store::{CellId, Store};
 use vt_syntax::{CoreDef, CoreProgram};
@@ -20,49 +19,43 @@ use vt_type::Constants;
 
 /// All definitions of a program in the whole context: their names, their schemes and their marks.
 pub(crate) fn definitions<const N: usize>(
-    alloc: Global,
     core: &CoreProgram,
     constants: &Constants,
     work: &mut Work<N>,
-    schemes: &mut Schemes<N>,
     marks: &mut Marks,
     within: &Context<N>,
 ) -> Result<(), AllocError>
     requires table { IsTable constants.now }
     requires covers { Covers N within.now within.now.space }
-    requires reached { IsReached N constants.now core.now within.now.space 0 work.old schemes.old marks.old }
-    ensures { OnOk result (IsReached N constants.now core.now within.now.space (length core.now.defs) work.new schemes.new marks.new) }
+    requires reached { IsReached N constants.now core.now within.now.space 0 work.old marks.old }
+    ensures { OnOk result (IsReached N constants.now core.now within.now.space (length core.now.defs) work.new marks.new) }
 {
     for def in core.defs.as_slice() {
-        add(alloc, def, constants, work, schemes, marks, within)?;
+        add(def, constants, work, marks, within)?;
     }
     Ok(())
 }
 
-/// One more definition: its name, its scheme and its mark.
+// One more definition: its name, its scheme and its mark.
 fn add<const N: usize>(
-    alloc: Global,
     def: &CoreDef,
     constants: &Constants,
     work: &mut Work<N>,
-    schemes: &mut Schemes<N>,
     marks: &mut Marks,
     within: &Context<N>,
 ) -> Result<(), AllocError>
     requires { IsDefinable N constants.now within.now def.now work.old }
-    ensures { OnOk result (IsAdded N constants.now within.now def.now work.old work.new schemes.old schemes.new marks.old marks.new) }
+    ensures { OnOk result (IsAdded N constants.now within.now def.now work.old work.new marks.old marks.new) }
 {
     solvable(&work.store);
     let root = definition(def, constants, work, within)?;
     solvable(&work.store);
-    schemes.push(freeze(alloc, &work.store, &[], root)?)?;
-    marks.push(def.node)?;
     generalise(work, root)?;
-    Ok(())
+    marks.push(def.node)
 }
 
-/// A cell for a definition. At each decision it has exactly the types of what the decision selects; a
-/// decision at which that has none is dead from now on, with the node that fails first.
+// A cell for a definition. At each decision it has exactly the types of what the decision selects; a
+// decision at which that has none is dead from now on, with the node that fails first.
 fn definition<const N: usize>(
     def: &CoreDef,
     constants: &Constants,
@@ -80,7 +73,7 @@ fn definition<const N: usize>(
     Ok(cell)
 }
 
-/// A recursive definition: within its own expression its name has one type.
+// A recursive definition: within its own expression its name has one type.
 fn looped<const N: usize>(
     def: &CoreDef,
     constants: &Constants,

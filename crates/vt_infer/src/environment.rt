@@ -1,6 +1,7 @@
 ghost use Rattle.std.specs.Prelude.{◌≡◌, ◌<◌, ℕ, List, [], ◌∷◌, ◌++◌, length, slice_get, Some, IfOk, OnOk, OnErr, MatchOption};
-ghost use Rattle.vt_infer.specs.Environments.{mono_cells};
+ghost use Rattle.vt_infer.specs.Environments.{mono_cells, schemes_of};
 
+use crate::typed::Schemes;
 use std::alloc::{AllocError, Global};
 use std::collections::VecDeque;
 use std::marker::Model;
@@ -10,17 +11,17 @@ use vt_store::{CellId, CellList};
 /// What is known of a bound name: the cell of a parameter, or a frozen scheme with the cells that its
 /// monos are copies of.
 #[derive(Debug, Drop)]
-pub enum Entry<const N: usize> {
+pub(crate) enum Entry<const N: usize> {
     Mono(CellId),
     Poly(Scheme<N>, CellList),
 }
 
 /// The names round an expression, the newest first.
 #[derive(Debug, Drop)]
-pub struct Environment<const N: usize> {
+pub(crate) struct Environment<const N: usize> {
     entries: VecDeque<Entry<N>>,
-    /// The cells of the parameters among them, the newest first. A file has many definitions, each of
-    /// which asks for these, and few parameters.
+    // The cells of the parameters among them, the newest first. A file has many definitions, each of
+    // which asks for these, and few parameters.
     monos: VecDeque<CellId>,
 }
 
@@ -43,7 +44,7 @@ impl<const N: usize> Model for Environment<N> {
 
 impl<const N: usize> Environment<N> {
     /// No names. It takes no memory.
-    pub fn new(alloc: Global) -> Environment<N>
+    pub(crate) fn new(alloc: Global) -> Environment<N>
         ensures { result ≡ [] }
     {
         let entries = VecDeque::new(alloc);
@@ -51,7 +52,7 @@ impl<const N: usize> Environment<N> {
         Environment { entries, monos }
     }
 
-    pub fn push(&mut self, entry: Entry<N>) -> Result<(), AllocError>
+    pub(crate) fn push(&mut self, entry: Entry<N>) -> Result<(), AllocError>
         ensures { OnOk result (self.new ≡ entry.entry ∷ self.old) }
     {
         self.entries.reserve(1)?;
@@ -61,7 +62,7 @@ impl<const N: usize> Environment<N> {
     }
 
     /// Forgets the newest name.
-    pub fn pop(&mut self) -> Option<Entry<N>>
+    pub(crate) fn pop(&mut self) -> Option<Entry<N>>
         ensures { MatchOption result ((self.old ≡ []) × (self.new ≡ [])) (λ entry. self.old ≡ entry ∷ self.new) }
     {
         let entry = self.entries.pop_front()?;
@@ -70,7 +71,7 @@ impl<const N: usize> Environment<N> {
     }
 
     /// The entry of the name that was bound before so many others.
-    pub fn entry(&self, distance: u32) -> &Entry<N>
+    pub(crate) fn entry(&self, distance: u32) -> &Entry<N>
         requires { distance < length self.now }
         ensures { slice_get self.now distance ≡ Some result.now }
     {
@@ -78,7 +79,7 @@ impl<const N: usize> Environment<N> {
     }
 
     /// The cells of the names that take one type, the newest first.
-    pub fn mono_cells(&self, alloc: Global) -> Result<CellList, AllocError>
+    pub(crate) fn mono_cells(&self, alloc: Global) -> Result<CellList, AllocError>
         ensures { IfOk result (λ cells. cells ≡ mono_cells self.now) }
     {
         let mut cells = Vec::new(alloc);
@@ -87,9 +88,56 @@ impl<const N: usize> Environment<N> {
         }
         Ok(CellList::new(cells))
     }
+
+    /// The schemes of the names, in the order in which these were bound.
+    pub(crate) fn into_schemes(self, alloc: Global) -> Result<Schemes<N>, AllocError>
+        ensures { IfOk result (λ schemes. schemes ≡ schemes_of self) }
+    {
+        let Environment { mut entries, monos } = self;
+        drop(monos);
+        let mut schemes = Vec::new(alloc);
+        let moved = move_schemes(&mut entries, &mut schemes);
+        drop(entries);
+        match moved {
+            Ok(()) => Ok(Schemes::new(schemes)),
+            Err(fault) => {
+                drop(schemes);
+                Err(fault)
+            }
+        }
+    }
 }
 
-/// Adds the cell of an entry that has one type.
+// Moves the schemes of all entries, the oldest first.
+fn move_schemes<const N: usize>(
+    entries: &mut VecDeque<Entry<N>>,
+    schemes: &mut Vec<Scheme<N>>,
+) -> Result<(), AllocError>
+    ensures { OnOk result (schemes.new.items ≡ schemes.old.items ++ schemes_of entries.old.items) }
+{
+    while let Some(entry) = entries.pop_back() {
+        push_scheme(schemes, entry)?;
+    }
+    Ok(())
+}
+
+// Adds the scheme of an entry that has one.
+fn push_scheme<const N: usize>(
+    schemes: &mut Vec<Scheme<N>>,
+    entry: Entry<N>,
+) -> Result<(), AllocError>
+    ensures { OnOk result (schemes.new.items ≡ schemes.old.items ++ schemes_of (entry ∷ [])) }
+{
+    match entry {
+        Entry::Mono(_) => Ok(()),
+        Entry::Poly(scheme, originals) => {
+            drop(originals);
+            schemes.push(scheme)
+        }
+    }
+}
+
+// Adds the cell of an entry that has one type.
 fn push_mono<const N: usize>(
     monos: &mut VecDeque<CellId>,
     entry: &Entry<N>,
@@ -106,7 +154,7 @@ fn push_mono<const N: usize>(
     }
 }
 
-/// Takes it away again.
+// Takes it away again.
 fn pop_mono<const N: usize>(monos: &mut VecDeque<CellId>, entry: &Entry<N>)
     ensures { (rest : List ℕ) → monos.old.items ≡ mono_cells (entry.now ∷ []) ++ rest → monos.new.items ≡ rest }
 {

@@ -19,7 +19,7 @@ use vt_type::Constants;
 /// A cell for an expression, in a context. At each decision the cell has exactly the types of what the
 /// decision selects; a decision at which that has none is dead from now on, with the node that fails first.
 /// After an error nothing is known of what was passed, and it is to be given up.
-pub fn expression<const N: usize>(
+pub(crate) fn expression<const N: usize>(
     core: &Core,
     constants: &Constants,
     work: &mut Work<N>,
@@ -69,7 +69,7 @@ fn typed<P, const N: usize>(
     }
 }
 
-/// `fun`: its parameter is a new cell.
+// `fun`: its parameter is a new cell.
 #[cycle(typed)]
 fn function<P, const N: usize>(
     body: &Core,
@@ -87,7 +87,7 @@ fn function<P, const N: usize>(
     function_cell(&mut work.store, parameter, to)
 }
 
-/// An application of a function to an argument.
+// An application of a function to an argument.
 #[cycle(typed)]
 fn application<P, const N: usize>(
     function: &Core,
@@ -105,7 +105,7 @@ fn application<P, const N: usize>(
     applied(work, within, one, other, node)
 }
 
-/// `let`: the bound name takes every type that its expression has.
+// `let`: the bound name takes every type that its expression has.
 #[cycle(typed)]
 fn let_in<P, const N: usize>(
     bound: &Core,
@@ -124,7 +124,7 @@ fn let_in<P, const N: usize>(
     Ok(cell)
 }
 
-/// `let rec`: within its own expression the bound name has one type.
+// `let rec`: within its own expression the bound name has one type.
 #[cycle(typed)]
 fn let_rec<P, const N: usize>(
     bound: &Core,
@@ -148,7 +148,7 @@ fn let_rec<P, const N: usize>(
     Ok(cell)
 }
 
-/// A choice: each alternative where the decision takes its side.
+// A choice: each alternative where the decision takes its side.
 #[cycle(typed)]
 fn alternatives<P, const N: usize>(
     dim: Dim,

@@ -1,21 +1,20 @@
 //! The types of a program, at each decision of a space.
-ghost use Rattle.std.specs.Prelude.{◌*◌, ◌≤◌, length, IfOk};
+ghost use Rattle.std.specs.Prelude.{◌≡◌, ◌*◌, ◌≤◌, length, IfOk};
 ghost use Rattle.vt_syntax.specs.Checking.{IsInCheckingOrder};
 ghost use Rattle.vt_syntax.specs.Scoping.{IsClosed};
 ghost use Rattle.vt_type.specs.Constants.{IsTable};
 ghost use Rattle.vt_infer.specs.Inferred.{IsInferred};
-ghost use Rattle.vt_infer.specs.Parts.{Covers, IsReached, IsStarted};
+ghost use Rattle.vt_infer.specs.Parts.{Covers, IsReached, IsStarted, typed_of};
 
-use crate::Typed;
 use crate::definitions::{definitions, solvable};
 use crate::environment::Environment;
 use crate::expression::expression;
-use crate::typed::{Marks, Schemes};
+use crate::naming::generalise;
+use crate::typed::{Marks, Typed};
 use crate::work::Work;
 use std::alloc::{AllocError, Global};
 use vt_dec::{Context, Space};
-use vt_scheme::freeze;
-use vt_store::{Pattern, Store};
+use vt_store::{CellId, Pattern, Store};
 use vt_syntax::{CoreProgram, last_node};
 use vt_type::Constants;
 
@@ -35,21 +34,18 @@ pub fn infer<const N: usize>(
     let _constants = constants.len();
     let within = Context::whole(space);
     let mut work = started(alloc, space);
-    let mut schemes = Schemes::new(Vec::new(alloc));
     let mut marks = Marks::new(Vec::new(alloc));
-    definitions(
-        alloc,
-        core,
-        constants,
-        &mut work,
-        &mut schemes,
-        &mut marks,
-        &within,
-    )?;
-    finished(core, alloc, constants, work, schemes, marks, &within)
+    match parts(core, constants, &mut work, &mut marks, &within) {
+        Ok(main) => finished(alloc, work, marks, main),
+        Err(fault) => {
+            drop(marks);
+            drop(work);
+            Err(fault)
+        }
+    }
 }
 
-/// Nothing is known yet: no cells, no names, and all decisions are alive.
+// Nothing is known yet: no cells, no names, and all decisions are alive.
 fn started<const N: usize>(alloc: Global, space: Space) -> Work<N>
     ensures { IsStarted N space result }
 {
@@ -60,34 +56,56 @@ fn started<const N: usize>(alloc: Global, space: Space) -> Work<N>
     }
 }
 
-/// The main expression after all definitions.
-fn finished<const N: usize>(
+// All definitions, and then the main expression, whose cell it gives: as a part it has a scheme like
+// them, the last one in the environment.
+fn parts<const N: usize>(
     core: &CoreProgram,
-    alloc: Global,
     constants: &Constants,
-    work: Work<N>,
-    schemes: Schemes<N>,
-    marks: Marks,
+    work: &mut Work<N>,
+    marks: &mut Marks,
     within: &Context<N>,
-) -> Result<Typed<N>, AllocError>
+) -> Result<CellId, AllocError>
     requires table { IsTable constants.now }
     requires covers { Covers N within.now within.now.space }
-    requires reached { IsReached N constants.now core.now within.now.space (length core.now.defs) work schemes marks }
-    ensures { IfOk result (λ typed. IsInferred N constants.now core.now within.now.space typed) }
+    requires reached { IsReached N constants.now core.now within.now.space 0 work.old marks.old }
+    ensures { IfOk result (λ main. IsInferred N constants.now core.now within.now.space (typed_of work.new marks.new main)) }
 {
-    let mut work = work;
-    let mut schemes = schemes;
-    let mut marks = marks;
+    definitions(core, constants, work, marks, within)?;
     solvable(&work.store);
-    let main = expression(&core.main, constants, &mut work, within)?;
+    let main = expression(&core.main, constants, work, within)?;
     solvable(&work.store);
-    schemes.push(freeze(alloc, &work.store, &[], main)?)?;
+    generalise(work, main)?;
     marks.push(last_node(&core.main))?;
-    Ok(Typed {
-        store: work.store,
-        pattern: work.pattern,
-        main,
-        schemes,
-        marks,
-    })
+    Ok(main)
+}
+
+// What was found out, with the schemes that the environment holds.
+fn finished<const N: usize>(
+    alloc: Global,
+    work: Work<N>,
+    marks: Marks,
+    main: CellId,
+) -> Result<Typed<N>, AllocError>
+    ensures { IfOk result (λ typed. typed ≡ typed_of work marks main) }
+{
+    let Work {
+        store,
+        pattern,
+        environment,
+    } = work;
+    match environment.into_schemes(alloc) {
+        Ok(schemes) => Ok(Typed {
+            store,
+            pattern,
+            main,
+            schemes,
+            marks,
+        }),
+        Err(fault) => {
+            drop(marks);
+            drop(pattern);
+            drop(store);
+            Err(fault)
+        }
+    }
 }

@@ -9,8 +9,8 @@
 
 mod constant;
 mod definitions;
-pub mod environment;
-pub mod expression;
+mod environment;
+mod expression;
 mod inference;
 mod joining;
 mod naming;
@@ -19,7 +19,7 @@ mod steps;
 mod tests;
 mod typed;
 mod variables;
-pub mod work;
+mod work;
 
 pub use inference::infer;
 pub use typed::{Marks, Schemes, Typed};

@@ -43,7 +43,7 @@ pub(crate) fn named<const N: usize>(
     }
 }
 
-/// A copy of a scheme whose monos are the cells that they stand for.
+// A copy of a scheme whose monos are the cells that they stand for.
 fn used<const N: usize>(
     store: &mut Store<N>,
     pattern: &mut Pattern<N>,
@@ -76,7 +76,7 @@ fn used<const N: usize>(
     Ok(copied.root)
 }
 
-/// Makes each cell one with the cell at the same place.
+// Makes each cell one with the cell at the same place.
 fn equate_all<const N: usize>(
     store: &mut Store<N>,
     pattern: &mut Pattern<N>,

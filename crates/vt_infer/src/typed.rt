@@ -38,20 +38,12 @@ impl<const N: usize> Model for Schemes<N> {
 }
 
 impl<const N: usize> Schemes<N> {
-    ghost use Rattle.std.specs.Prelude.{◌≡◌, [], ◌∷◌, ◌++◌, OnOk};
+    ghost use Rattle.std.specs.Prelude.{◌≡◌};
 
     pub fn new(schemes: Vec<Scheme<N>>) -> Schemes<N>
         ensures { result ≡ schemes.entry.items }
     {
         Schemes { schemes }
-    }
-
-    /// One more at the end.
-    pub(crate) fn push(&mut self, scheme: Scheme<N>) -> Result<(), AllocError>
-        ensures { OnOk result (self.new ≡ self.old ++ scheme.entry ∷ []) }
-    {
-        self.schemes.push(scheme)?;
-        Ok(())
     }
 
     pub fn as_slice(&self) -> &[Scheme<N>]

@@ -3,8 +3,8 @@ use vt_store::{Pattern, Store};
 
 /// What inference works on: the cells, what became of each decision, and the names in scope.
 #[derive(Debug, Drop)]
-pub struct Work<const N: usize> {
-    pub store: Store<N>,
-    pub pattern: Pattern<N>,
-    pub environment: Environment<N>,
+pub(crate) struct Work<const N: usize> {
+    pub(crate) store: Store<N>,
+    pub(crate) pattern: Pattern<N>,
+    pub(crate) environment: Environment<N>,
 }

@@ -22,15 +22,6 @@ module _ (K : List Constant) (k : ℕ) where
   AllowsUpTo (Def env bound) type = TyUpTo K k env bound type
   AllowsUpTo (Rec env bound) type = IsWellFormed type × TyUpTo K k (env ▸ Mono type) bound type
 
-  pub literal_within : (env : Env) (n : ℕ) (at : Span) (l : Lit) (type : Plain) → n ≤ k → TyUpTo K k env (core n at (Literal l)) type → type ≡ literal_type l
-  literal_within _ _ _ _ _ le (to.literal env n at l within) = refl
-  literal_within _ _ _ _ _ le (to.literal_above env n at l type above w) = absurd (omega arith)
-
-  pub constant_within : (env : Env) (n : ℕ) (at : Span) (id : ℕ) (type : Plain) → n ≤ k → TyUpTo K k env (core n at (Const id)) type
-      → (closed : Plain) × HasClosed K id closed × IsInstance type closed
-  constant_within _ _ _ _ _ le (to.constant env n at id closed type within has instance) = (closed, has, instance)
-  constant_within _ _ _ _ _ le (to.constant_above env n at id type above w) = absurd (omega arith)
-
   pub name_within : (env : Env) (n : ℕ) (at : Span) (distance : ℕ) (type : Plain) → n ≤ k → TyUpTo K k env (core n at (Name distance)) type
       → (entry : Entry) × (entry_at env distance ≡ Some entry) × AllowsUpTo entry type
   name_within _ _ _ _ _ le (to.name_mono env n at distance type within e) = (Mono type, e, refl)
@@ -38,20 +29,10 @@ module _ (K : List Constant) (k : ℕ) where
   name_within _ _ _ _ _ le (to.name_rec env n at distance inner bound type within e w d) = (Rec inner bound, e, (w, d))
   name_within _ _ _ _ _ le (to.name_above env n at distance type above w) = absurd (omega arith)
 
-  pub fun_within : (env : Env) (n : ℕ) (at : Span) (body : Core) (type : Plain) → n ≤ k → TyUpTo K k env (core n at (fun_form body)) type
-      → (from result : Plain) × IsWellFormed from × TyUpTo K k (env ▸ Mono from) body result × (type ≡ from ⇒ result)
-  fun_within _ _ _ _ _ le (to.fun env n at body from result within w d) = (from, result, w, d, refl)
-  fun_within _ _ _ _ _ le (to.fun_above env n at body from other type above w v d) = absurd (omega arith)
-
   pub app_within : (env : Env) (n : ℕ) (at : Span) (function argument : Core) (type : Plain) → n ≤ k → TyUpTo K k env (core n at (app_form function argument)) type
       → (from : Plain) × TyUpTo K k env function (from ⇒ type) × TyUpTo K k env argument from
   app_within _ _ _ _ _ _ le (to.app env n at function argument from type within d f) = (from, d, f)
   app_within _ _ _ _ _ _ le (to.app_above env n at function argument one other type above w d f) = absurd (omega arith)
-
-  pub let_within : (env : Env) (n : ℕ) (at : Span) (bound body : Core) (type : Plain) → n ≤ k → TyUpTo K k env (core n at (let_form bound body)) type
-      → (some : Plain) × TyUpTo K k env bound some × TyUpTo K k (env ▸ Def env bound) body type
-  let_within _ _ _ _ _ _ le (to.let_in env n at bound body some type within d f) = (some, d, f)
-  let_within _ _ _ _ _ _ le (to.let_above env n at bound body one other type above w d f) = absurd (omega arith)
 
   pub let_rec_within : (env : Env) (n : ℕ) (at : Span) (name : List ℕ) (name_at : Span) (bound body : Core) (type : Plain) → n ≤ k
       → TyUpTo K k env (core n at (let_rec_form name name_at bound body)) type

@@ -10,13 +10,6 @@ use Rattle.vt_rules.proofs.UpTo.{ty-up_to}
 -- The first failing node.
 
 module _ (K : List Constant) (program : Core) where
-  -- there is at most one
-  pub one_first : (k j : ℕ) → FirstFailing K program k → FirstFailing K program j → k ≡ j
-  one_first k j f g =
-      elim (cases_lt k j) [
-        | inl less ↦ absurd (f.fails (g.before k less))
-        | inr le ↦ elim (cases_lt j k) [ inl less ↦ absurd (g.fails (f.before j less)) | inr ge ↦ omega arith ]
-      ]
 
   -- where it is, there is no typing
   pub failing-untyped : IsTable K → (k : ℕ) → FirstFailing K program k → IsTyped K program → ⊥

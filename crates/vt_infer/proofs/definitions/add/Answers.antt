@@ -22,11 +22,6 @@ returns g c = record {
   solvable_after = c.solvable-2.ensures;
   store = c.in_ok-generalise.ensures.store;
   pattern = c.in_ok-generalise.ensures.pattern;
-  scheme = c.in_ok-freeze.field-0;
-  frozen = c.in_ok-freeze.ensures.frozen;
-  schemes_are = c.in_ok-push.ensures;
-  marks_are = c.in_ok-push-2.ensures;
-  own = c.in_ok-generalise.ensures.entry.scheme;
-  own_frozen = c.in_ok-generalise.ensures.entry.frozen;
-  pushed = c.in_ok-generalise.ensures.entry.pushed;
+  generalised = c.in_ok-generalise.ensures.entry;
+  marks_are = c.in_ok-push.ensures;
 }

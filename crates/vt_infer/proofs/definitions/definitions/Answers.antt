@@ -6,8 +6,8 @@ use Rattle.vt_infer.proofs.definitions.definitions.Goals as goal
 
 pub loop-def-preserved : goal.loop-def-preserved
 loop-def-preserved g c =
-    reached_added g.row.N c.args.constants.now c.requires.table c.args.within.now c.args.core.now c.loop-def.def-index c.loop-def.work c.loop-def.schemes c.loop-def.marks c.loop-def.invariant
-    c.def-item.result (item_at c.as_slice-def-items.result.now c.args.core.now.defs c.loop-def.def-index c.def-item.result c.as_slice-def-items.ensures c.loop-def-test.true c.def-item.is) c.requires.covers c.add.new.work c.add.new.schemes c.add.new.marks c.in_ok-add.ensures
+    reached_added g.row.N c.args.constants.now c.requires.table c.args.within.now c.args.core.now c.loop-def.def-index c.loop-def.work c.loop-def.marks c.loop-def.invariant
+    c.def-item.result (item_at c.as_slice-def-items.result.now c.args.core.now.defs c.loop-def.def-index c.def-item.result c.as_slice-def-items.ensures c.loop-def-test.true c.def-item.is) c.requires.covers c.add.new.work c.add.new.marks c.in_ok-add.ensures
 
 pub add-requires : goal.add-requires
 add-requires g c = (
@@ -16,7 +16,7 @@ add-requires g c = (
     search rules,
     (
       search rules,
-      definable g.row.N c.args.constants.now c.requires.table c.args.within.now c.args.core.now c.loop-def.def-index c.loop-def.work c.loop-def.schemes c.loop-def.marks c.loop-def.invariant
+      definable g.row.N c.args.constants.now c.requires.table c.args.within.now c.args.core.now c.loop-def.def-index c.loop-def.work c.loop-def.marks c.loop-def.invariant
           c.def-item.result (item_at c.as_slice-def-items.result.now c.args.core.now.defs c.loop-def.def-index c.def-item.result c.as_slice-def-items.ensures c.loop-def-test.true c.def-item.is),
     ),
   ),
@@ -26,4 +26,4 @@ pub returns : goal.returns
 returns g c =
     let same = c.as_slice-def-items.ensures in
     let all : c.loop-def.def-index ≡ length c.args.core.now.defs = omega (arith, ap length same) in
-    subst (λ count. IsReached g.row.N c.args.constants.now c.args.core.now c.args.within.now.space count c.loop-def.work c.loop-def.schemes c.loop-def.marks) all c.loop-def.invariant
+    subst (λ count. IsReached g.row.N c.args.constants.now c.args.core.now c.args.within.now.space count c.loop-def.work c.loop-def.marks) all c.loop-def.invariant
