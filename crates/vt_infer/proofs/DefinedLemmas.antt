@@ -23,7 +23,6 @@ use Rattle.vt_infer.proofs.KnownLemmas.{are_meant}
 -- A definition, from its expression.
 
 module _ (N : ℕ) (K : List Constant) (region : Region) (def : CoreDef) (old : Work N) (h : IsDefinable N K region def old) where
-
   pub plain_defined : def.recursive ≡ false → (result : ℕ) (new : Work N) → IsExpressed N K region def.body result old new → IsDefined N K region def result old new
   plain_defined is result new e = record {
     space = e.goes_on.space;

@@ -4,8 +4,9 @@ use Rattle.std.proofs.lemmas.Bool.{lt-ltb, le-ltb, cases_eq}
 use Rattle.std.proofs.lemmas.List.Elements.{All-head, All-tail}
 use Rattle.vt_type.specs.declared.plain.Plain.{Plain, Con}
 use Rattle.vt_type.specs.Plain.{IsWellFormed}
-use Rattle.vt_store.specs.Ends.{CellEnd, Free, Same, Made, EachCell, EndsWithin, IsAcyclic}
+use Rattle.vt_store.specs.Ends.{CellEnd, Free, Same, Made, EachCell, IsAcyclic}
 use Rattle.vt_store.specs.Solutions.{plain_kids, Fits, Solves}
+use Rattle.vt_store.proofs.Cells.{IsAcyclic-named}
 use Rattle.vt_infer.specs.Steps.{Solutions, Agree, Keeps, Adds}
 
 -- A store with one more cell, at one decision: what that does to its solutions.
@@ -22,23 +23,6 @@ pub Fits-agrees : (n : ℕ) (s other : ℕ → Plain) (type : Plain) (end : Cell
 Fits-agrees n s other type Free inside agree fits = tt
 Fits-agrees n s other type (Same cell) inside agree fits = fits ∙ sym (agree cell inside)
 Fits-agrees n s other type (Made head kids) inside agree fits = fits ∙ ap (λ types. Con head (plain_kids types)) (sym (map-agrees n s other kids inside agree))
-
-ends-within : (n : ℕ) (e : ℕ → CellEnd) (most cell : ℕ) → EndsWithin n e most cell → cell < n
-ends-within n e zero cell h = absurd h
-ends-within n e (suc most) cell h = h.0
-
-each-within : (n : ℕ) (e : ℕ → CellEnd) (most : ℕ) (end : CellEnd) → EachCell (EndsWithin n e most) end → EachCell (λ cell. cell < n) end
-each-within n e most Free h = tt
-each-within n e most (Same cell) h = ends-within n e most cell h
-each-within n e most (Made head kids) h = λ k d within. ends-within n e most _ (h k d within)
-
--- the ends of cells name cells
-pub named_inside : (n : ℕ) (e : ℕ → CellEnd) → IsAcyclic n e → (cell : ℕ) → cell < n → EachCell (λ own. own < n) (e cell)
-named_inside n e acyclic cell inside = by n (acyclic cell inside)
-  where
-    by : (fuel : ℕ) → EndsWithin n e fuel cell → EachCell (λ own. own < n) (e cell)
-    by zero h = absurd h
-    by (suc fuel) h = each-within n e fuel (e cell) h.1
 
 -- the types of so many cells, and one type for all that come later
 abbrev pub extended : ℕ → (ℕ → Plain) → Plain → ℕ → Plain
@@ -75,7 +59,7 @@ module _ (n m : ℕ) (e later : ℕ → CellEnd) (count : m ≡ n + 1) (acyclic 
       at_old : (cell : ℕ) → cell < n → Fits (extended n s type) (extended n s type cell) (later cell)
       at_old cell old =
           subst (Fits (extended n s type) (extended n s type cell)) (sym (kept cell old))
-          (Fits-agrees n s (extended n s type) (extended n s type cell) (e cell) (named_inside n e acyclic cell old) (extended-old n s type)
+          (Fits-agrees n s (extended n s type) (extended n s type cell) (e cell) (IsAcyclic-named n e acyclic cell old) (extended-old n s type)
           (subst (λ own. Fits s own (e cell)) (sym (extended-old n s type cell old)) (solves.fits cell old)))
 
       fitting : (cell : ℕ) → cell < m → (cell ≡ n) ⊎ (cell ≡ n → ⊥) → Fits (extended n s type) (extended n s type cell) (later cell)

@@ -7,7 +7,8 @@ use Rattle.vt_dec.specs.declared.side.Side.{Side}
 use Rattle.vt_dec.specs.declared.side.Space.{Space}
 use Rattle.vt_dec.specs.declared.fate.Fate.{Fate}
 use Rattle.vt_dec.specs.declared.fate.Fate.TheVariants.{Alive, Dead}
-use Rattle.vt_dec.specs.Decisions.{Region, Agrees, Admits}
+use Rattle.vt_dec.specs.Decisions.{Region, Admits}
+use Rattle.vt_dec.proofs.Admitting.{Agrees-open}
 use Rattle.vt_syntax.specs.declared.core_program.CoreProgram.{CoreProgram}
 use Rattle.vt_syntax.specs.Checking.{numbers_of, IsInCheckingOrder, IsGreatest}
 use Rattle.vt_syntax.specs.Programs.{nested}
@@ -37,16 +38,10 @@ pub item_at : {X : Type 0} (xs ys : List X) (i : ℕ) (x : X) → xs ≡ ys → 
 item_at xs ys i x same within is = subst (λ list. slice_get list i ≡ Some x) same (slice_get-get_or xs i x within ∙ ap Some (sym is))
 
 -- the whole context has all decisions of its space
-agrees_with_none : (n : ℕ) (decision : List Side) → length decision ≡ n → Agrees (replicate n None) decision
-agrees_with_none zero [] sized = tt
-agrees_with_none zero (side ∷ decision) sized = absurd (omega arith)
-agrees_with_none (suc n) [] sized = absurd (omega arith)
-agrees_with_none (suc n) (side ∷ decision) sized = agrees_with_none n decision (omega arith)
-
 pub whole_covers : (N : ℕ) (space : Space) (region : Region) → region ≡ record { sides = replicate (64 * N) None; space = space } → Covers N region region.space
 whole_covers N space region is =
     let whole : Region = record { sides = replicate (64 * N) None; space = space } in
-    subst (λ r. Covers N r r.space) (sym is) (λ decision of. record { agrees = agrees_with_none (64 * N) decision of.sized; in_space = of.inside })
+    subst (λ r. Covers N r r.space) (sym is) (λ decision of. record { agrees = Agrees-open (64 * N) decision of.sized; in_space = of.inside })
 
 pub reached_start : (N : ℕ) (K : List Constant) (core : CoreProgram) (space : Space) (work : Work N) → IsStarted N space work → IsClosed (length K) (64 * N) core → IsInCheckingOrder core
     → IsReached N K core space 0 work []

@@ -3,33 +3,21 @@ use Rattle.vt_dec.specs.declared.side.Side.{Side}
 use Rattle.vt_dec.specs.declared.fate.Fate.{Fate}
 use Rattle.vt_dec.specs.declared.fate.Fate.TheVariants.{Alive, Dead}
 use Rattle.vt_dec.specs.Decisions.{Region, Admits}
+use Rattle.vt_dec.proofs.Admitting.{Admits-or}
 use Rattle.vt_type.specs.declared.plain.Plain.{Plain}
 use Rattle.vt_type.specs.Plain.{IsWellFormed}
 use Rattle.vt_type.specs.Constants.{◌⇒◌, int}
-use Rattle.vt_store.specs.Ends.{IsAcyclic, AreArities}
-use Rattle.vt_store.specs.Laws.{HaveMostGeneral}
 use Rattle.vt_store.specs.Patterns.{FateMap, fate_at}
 use Rattle.vt_store.specs.Stores.{Cells, cell_count, ends_at}
 use Rattle.vt_store.specs.Writes.{IsOf}
 use Rattle.vt_unify.specs.Unified.{IsUnified, IsKeptAt, IsEither}
-use Rattle.vt_unify.proofs.Admitted.{Admits-or}
+use Rattle.vt_store.proofs.Solutions.{HaveSolutions}
 use Rattle.vt_infer.specs.Steps.{Solutions, AreFormed, Agree, Keeps, Adds, Joins, Equates}
 use Rattle.vt_infer.specs.Inferring.{solutions_at, GoesOn, IsNew, IsJoint, IsEquated}
 use Rattle.vt_infer.proofs.Combining.{agree-then}
 use Rattle.vt_infer.proofs.GoingOn.{goes_on-then, goes_on-new, of_same, formed_at}
 
 -- Cells made one.
-
--- at each decision there is a solution
-abbrev pub HaveSolutions : ℕ → Cells → Type 0
-HaveSolutions N store = (decision : List Side) → IsOf N store.space decision → (s : ℕ → Plain) × solutions_at store decision s
-
-pub have_solutions : (N : ℕ) (store : Cells) → HaveMostGeneral
-    → ((decision : List Side) → IsOf N store.space decision → IsAcyclic (cell_count store) (ends_at store decision))
-    → ((decision : List Side) → IsOf N store.space decision → AreArities (cell_count store) (ends_at store decision)) → HaveSolutions N store
-have_solutions N store law acyclic arities decision of =
-    let found = law (cell_count store) (ends_at store decision) (acyclic decision of) (arities decision of) in
-    (found.0, found.1)
 
 module _ (N : ℕ) (region : Region) (one other node : ℕ) (old new : Cells) (before after : FateMap)
     (unified : IsUnified N region one other node old new before after) where

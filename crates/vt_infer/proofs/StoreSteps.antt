@@ -15,27 +15,12 @@ use Rattle.vt_store.specs.Solutions.{plain_kids, Fits, Solves}
 use Rattle.vt_store.specs.Stores.{Cells, cell_count, ends_at, one_of}
 use Rattle.vt_store.specs.Stores as stores
 use Rattle.vt_store.specs.Writes.{IsOf}
+use Rattle.vt_store.proofs.Solutions.{IsWellFormed-made}
 use Rattle.vt_infer.specs.Steps.{Adds}
 use Rattle.vt_infer.specs.Inferring.{solutions_at, IsNew, NewTypes}
 use Rattle.vt_infer.proofs.Extending.{adds_one}
 
 -- New cells of a store.
-
-kid_count-plain_kids : (types : List Plain) → kid_count (plain_kids types) ≡ length types
-kid_count-plain_kids [] = refl
-kid_count-plain_kids (type ∷ types) = omega (arith, kid_count-plain_kids types)
-
-length-types : (s : ℕ → Plain) (kids : List ℕ) → length (map s kids) ≡ length kids
-length-types s [] = refl
-length-types s (kid ∷ kids) = ap suc (length-types s kids)
-
-are_formed : (n : ℕ) (s : ℕ → Plain) → ((cell : ℕ) → cell < n → IsWellFormed (s cell)) → (kids : List ℕ) → All (λ kid. kid < n) kids → AreWellFormed (plain_kids (map s kids))
-are_formed n s formed [] inside = tt
-are_formed n s formed (kid ∷ kids) inside =
-    (formed kid (All-head (λ own. own < n) kid kids inside), are_formed n s formed kids (All-tail (λ own. own < n) kid kids inside))
-
-con_formed : (n : ℕ) (s : ℕ → Plain) → ((cell : ℕ) → cell < n → IsWellFormed (s cell)) → (head : Head) (kids : List ℕ) → length kids ≡ arity head → All (λ kid. kid < n) kids → IsWellFormed (Con head (plain_kids (map s kids)))
-con_formed n s formed head kids sized inside = (kid_count-plain_kids (map s kids) ∙ length-types s kids ∙ sized, are_formed n s formed kids inside)
 
 -- a cell that is bound to what fits exactly these types
 pub IsNew-one : (N : ℕ) (types : NewTypes) (end : List Side → CellEnd) (result : ℕ) (old new : Cells)
@@ -75,7 +60,7 @@ module _ (N : ℕ) (result : ℕ) (old new : Cells)
   IsNew-con head kids sized inside added =
       IsNew-one N (λ decision s type. type ≡ Con head (plain_kids (map s kids))) (λ _. Made head kids) result old new acyclic added
       (λ decision of. inside) (λ decision of s type solves formed fits. fits)
-      (λ decision of s type solves has. (subst IsWellFormed (sym has) (con_formed (cell_count old) s (λ cell within. solves.well_formed cell within) head kids sized inside), has))
+      (λ decision of s type solves has. (subst IsWellFormed (sym has) (IsWellFormed-made s head kids sized (λ k d within. solves.well_formed _ (inside k d within))), has))
 
   -- one of two
   pub IsNew-choice : (dim left right : ℕ) → dim < 64 * N → left < cell_count old → right < cell_count old

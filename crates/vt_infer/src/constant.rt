@@ -43,7 +43,7 @@ fn built<P, const N: usize>(
         Plain::Con(head, kids) => {
             let head = *head;
             let cells = built_kids::<P, N>(kids, store, variables)?;
-            let _space = store.space();
+            store.acyclic();
             store.con(head, &cells)
         }
     }

@@ -97,5 +97,5 @@ pub(crate) fn solvable<const N: usize>(store: &Store<N>)
     ensures { HasSolutions N store.now }
 {
     most_general_solution();
-    let _space = store.space();
+    store.acyclic();
 }

@@ -10,14 +10,14 @@ use vt_store::{CellId, CellList};
 
 /// What is known of a bound name: the cell of a parameter, or a frozen scheme with the cells that its
 /// monos are copies of.
-#[derive(Debug, Drop)]
+#[derive(Drop)]
 pub(crate) enum Entry<const N: usize> {
     Mono(CellId),
     Poly(Scheme<N>, CellList),
 }
 
 /// The names round an expression, the newest first.
-#[derive(Debug, Drop)]
+#[derive(Drop)]
 pub(crate) struct Environment<const N: usize> {
     entries: VecDeque<Entry<N>>,
     // The cells of the parameters among them, the newest first. A file has many definitions, each of

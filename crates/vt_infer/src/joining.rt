@@ -27,9 +27,9 @@ pub(crate) fn equate<const N: usize>(
     ensures equated { OnOk result (IsEquated N within.now one other node work.old.store work.new.store work.old.pattern work.new.pattern) }
     ensures environment { work.new.environment ≡ work.old.environment }
 {
-    // What it ensures is that each decision has a solution.
+    // Each decision has a solution.
     most_general_solution();
-    let _space = work.store.space();
+    work.store.acyclic();
     unify(&mut work.store, &mut work.pattern, within, one, other, node)
 }
 
@@ -48,9 +48,9 @@ pub(crate) fn applied<const N: usize>(
     ensures joint { IfOk result (λ cell. IsJoint N within.now (λ decision s type. s function ≡ (s argument ⇒ type)) node cell work.old.store work.new.store work.old.pattern work.new.pattern) }
     ensures environment { work.new.environment ≡ work.old.environment }
 {
-    // What it ensures is that each decision has a solution.
+    // Each decision has a solution.
     most_general_solution();
-    let _space = work.store.space();
+    work.store.acyclic();
     let result = open_cell(&mut work.store)?;
     let arrow = function_cell(&mut work.store, argument, result)?;
     equate(work, within, function, arrow, node)?;

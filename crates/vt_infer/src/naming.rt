@@ -60,10 +60,10 @@ fn used<const N: usize>(
     requires pattern { pattern.old.space ≡ store.old.space }
     ensures joint { IfOk result (λ cell. IsJoint N within.now (λ decision s type. Allows scheme.now decision (map s originals.now) type) node cell store.old store.new pattern.old pattern.new) }
 {
-    // What it ensures is that each decision has a solution, of the store and of the scheme.
+    // Each decision has a solution, of the store and of the scheme.
     most_general_solution();
-    let _space = store.space();
-    let _own = scheme.cells.space();
+    store.acyclic();
+    scheme.cells.acyclic();
     let copied = instance(store, scheme)?;
     equate_all(
         store,

@@ -20,8 +20,7 @@ pub(crate) fn open_cell<const N: usize>(store: &mut Store<N>) -> Result<CellId, 
     ensures is_new { IfOk result (λ cell. IsNew N (λ decision s type. IsWellFormed type) cell store.old store.new) }
     ensures later { IfOk result (λ cell. cell_count store.old ≤ cell) }
 {
-    // What it ensures is that no cell contains itself.
-    let _space = store.space();
+    store.acyclic();
     store.fresh()
 }
 
@@ -32,7 +31,7 @@ pub(crate) fn literal_cell<const N: usize>(
     ensures { IfOk result (λ cell. IsNew N (λ decision s type. type ≡ literal_type literal) cell store.old store.new) }
 {
     let head = literal_head(literal);
-    let _space = store.space();
+    store.acyclic();
     store.con(head, &[])
 }
 
@@ -57,7 +56,7 @@ pub(crate) fn function_cell<const N: usize>(
     requires to { to < cell_count store.old }
     ensures { IfOk result (λ cell. IsNew N (λ decision s type. type ≡ (s from ⇒ s to)) cell store.old store.new) }
 {
-    let _space = store.space();
+    store.acyclic();
     store.con(Head::Fun, &[from, to])
 }
 
@@ -73,6 +72,6 @@ pub(crate) fn choice_cell<const N: usize>(
     requires right { right < cell_count store.old }
     ensures { IfOk result (λ cell. IsNew N (λ decision s type. type ≡ by_side (slice_get decision dim) (s left) (s right)) cell store.old store.new) }
 {
-    let _space = store.space();
+    store.acyclic();
     store.choice(dim, left, right)
 }

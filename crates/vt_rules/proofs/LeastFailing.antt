@@ -10,7 +10,6 @@ use Rattle.vt_rules.proofs.UpTo.{ty-up_to}
 -- The first failing node.
 
 module _ (K : List Constant) (program : Core) where
-
   -- where it is, there is no typing
   pub failing-untyped : IsTable K → (k : ℕ) → FirstFailing K program k → IsTyped K program → ⊥
   failing-untyped table k f typed = f.fails (typed.0, ty-up_to K table k Empty program typed.0 typed.1 tt)

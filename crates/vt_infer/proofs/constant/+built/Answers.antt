@@ -23,7 +23,7 @@ built-returns-in_ok-cells-in-Con-clause-built g t c =
     (λ cell added. subst (λ plain. IsBuilt g.row.N (λ s. s cell) (λ images. substituted images plain) c.args.variables.now c.built_kids.new.variables c.args.store.now c.con.new.self) (sym c.in-Con.is)
     (IsBuilt-con g.row.N c.in-Con.head c.in-Con.kids c.in_ok-cells-in-Con.cells.items cell c.args.variables.now c.built_kids.new.variables c.args.store.now c.built_kids.new.store c.con.new.self
     c.in_ok-cells-in-Con.ensures.built c.in_ok-cells-in-Con.ensures.are_cells
-    (IsNew-con g.row.N cell c.built_kids.new.store c.con.new.self c.space-space.ensures.acyclic c.in-Con.head c.in_ok-cells-in-Con.cells.items (c.in_ok-cells-in-Con.ensures.count ∙ formed.0) c.in_ok-cells-in-Con.ensures.are_cells
+    (IsNew-con g.row.N cell c.built_kids.new.store c.con.new.self c.acyclic.ensures.acyclic c.in-Con.head c.in_ok-cells-in-Con.cells.items (c.in_ok-cells-in-Con.ensures.count ∙ formed.0) c.in_ok-cells-in-Con.ensures.are_cells
     (rw c.deref.ensures.value at added))))
     c.con.ensures.ok
 

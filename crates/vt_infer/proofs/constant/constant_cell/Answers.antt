@@ -4,7 +4,7 @@ use Rattle.vt_type.specs.Plain.{substituted}
 use Rattle.vt_store.specs.Stores.{cell_count}
 use Rattle.vt_infer.specs.Building.{Table, IsBuilt}
 use Rattle.vt_infer.proofs.Built.{IsUse-built}
-use Rattle.vt_infer.proofs.Popping.{IfOk-both}
+use Rattle.vt_store.proofs.Results.{IfOk-both}
 use Rattle.vt_infer.proofs.constant.constant_cell.Goals as goal
 
 pub returns : goal.returns
