@@ -35,7 +35,7 @@ use Rattle.vt_infer.specs.Places.{Place, Bound, Looped, env_at, Gives}
 use Rattle.vt_infer.specs.Steps.{Solutions, Adds, Fails}
 use Rattle.vt_infer.specs.Definitions.{placed, place_of, places_after, env_after, AreTyped, FailsIn, DefinitionSteps, AreChecked}
 use Rattle.vt_infer.proofs.NumberLemmas.{numbered-wider}
-use Rattle.vt_infer.proofs.DefinitionLemmas.{nested-append, env-append, env-places, typed-append, chain_typed, chain_types, chain_fails}
+use Rattle.vt_infer.proofs.DefinitionLemmas.{nested-append, env-places, typed-append, chain_typed, chain_types, chain_fails}
 
 -- What the parts of a program mean at one decision, and what is known after one more definition.
 

@@ -13,12 +13,13 @@ use Rattle.vt_scheme.specs.Schemes.{Allows, IsInstanceOf}
 use Rattle.vt_scheme.specs.declared.scheme.Scheme.{Scheme}
 use Rattle.vt_scheme.specs.declared.scheme.Copied.{Copied}
 use Rattle.vt_unify.specs.Unified.{IsUnified, IsEither}
+use Rattle.vt_store.proofs.Solutions.{HaveSolutions}
 use Rattle.vt_infer.specs.Steps.{Solutions, Agree, Keeps, Joins}
 use Rattle.vt_infer.specs.Inferring.{solutions_at, GoesOn, IsJoint}
 use Rattle.vt_infer.specs.Equating.{EquatesAll, AreEquated}
 use Rattle.vt_infer.proofs.Extending.{map-agrees}
 use Rattle.vt_infer.proofs.GoingOn.{goes_on-itself, goes_on-then, of_same}
-use Rattle.vt_infer.proofs.Joints.{HaveSolutions, goes_on-unified}
+use Rattle.vt_infer.proofs.Joints.{goes_on-unified}
 
 -- Uses of names that stand for schemes.
 

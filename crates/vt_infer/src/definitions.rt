@@ -51,7 +51,8 @@ fn add<const N: usize>(
     let root = definition(def, constants, work, within)?;
     solvable(&work.store);
     generalise(work, root)?;
-    marks.push(def.node)
+    marks.push(def.node)?;
+    Ok(())
 }
 
 // A cell for a definition. At each decision it has exactly the types of what the decision selects; a

@@ -91,7 +91,7 @@ impl<const N: usize> Environment<N> {
 
     /// The schemes of the names, in the order in which these were bound.
     pub(crate) fn into_schemes(self, alloc: Global) -> Result<Schemes<N>, AllocError>
-        ensures { IfOk result (λ schemes. schemes ≡ schemes_of self) }
+        ensures { IfOk result (λ schemes. schemes ≡ schemes_of self.entry) }
     {
         let Environment { mut entries, monos } = self;
         drop(monos);
@@ -126,13 +126,14 @@ fn push_scheme<const N: usize>(
     schemes: &mut Vec<Scheme<N>>,
     entry: Entry<N>,
 ) -> Result<(), AllocError>
-    ensures { OnOk result (schemes.new.items ≡ schemes.old.items ++ schemes_of (entry ∷ [])) }
+    ensures { OnOk result (schemes.new.items ≡ schemes.old.items ++ schemes_of (entry.entry ∷ [])) }
 {
     match entry {
         Entry::Mono(_) => Ok(()),
         Entry::Poly(scheme, originals) => {
             drop(originals);
-            schemes.push(scheme)
+            schemes.push(scheme)?;
+            Ok(())
         }
     }
 }

@@ -117,8 +117,8 @@ fn let_in<P, const N: usize>(
     requires { IsReady N constants.now within.now (let_form bound.now body.now) work.old }
     ensures { (node : ℕ) (at : Span) → IfOk result (λ cell. IsExpressed N constants.now within.now (core node at (let_form bound.now body.now)) cell work.old work.new) }
 {
-    let own = typed::<P, N>(bound, constants, work, within)?;
-    generalise(work, own)?;
+    let root = typed::<P, N>(bound, constants, work, within)?;
+    generalise(work, root)?;
     let cell = typed::<P, N>(body, constants, work, within)?;
     work.environment.pop();
     Ok(cell)

@@ -86,7 +86,7 @@ fn finished<const N: usize>(
     marks: Marks,
     main: CellId,
 ) -> Result<Typed<N>, AllocError>
-    ensures { IfOk result (λ typed. typed ≡ typed_of work marks main) }
+    ensures { IfOk result (λ typed. typed ≡ typed_of work.entry marks main) }
 {
     let Work {
         store,

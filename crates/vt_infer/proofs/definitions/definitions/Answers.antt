@@ -14,11 +14,8 @@ add-requires g c = (
   search rules,
   (
     search rules,
-    (
-      search rules,
-      definable g.row.N c.args.constants.now c.requires.table c.args.within.now c.args.core.now c.loop-def.def-index c.loop-def.work c.loop-def.marks c.loop-def.invariant
-          c.def-item.result (item_at c.as_slice-def-items.result.now c.args.core.now.defs c.loop-def.def-index c.def-item.result c.as_slice-def-items.ensures c.loop-def-test.true c.def-item.is),
-    ),
+    definable g.row.N c.args.constants.now c.requires.table c.args.within.now c.args.core.now c.loop-def.def-index c.loop-def.work c.loop-def.marks c.loop-def.invariant
+        c.def-item.result (item_at c.as_slice-def-items.result.now c.args.core.now.defs c.loop-def.def-index c.def-item.result c.as_slice-def-items.ensures c.loop-def-test.true c.def-item.is),
   ),
 )
 

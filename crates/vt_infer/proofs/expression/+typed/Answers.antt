@@ -276,7 +276,7 @@ let_in-typed-requires g t c =
 
 pub let_in-generalise-requires : goal.let_in-generalise-requires
 let_in-generalise-requires g t c =
-    (search rules, (c.in_ok-own.ensures.is_cell, (ready-next g.row.N c.args.constants.now c.args.within.now c.args.within.now c.args.within.now c.args.bound.now c.in_ok-own.own (let_form c.args.bound.now c.args.body.now) c.args.bound.now.form c.args.work.now c.typed.new.work c.requires refl c.in_ok-own.ensures c.requires.scoped.0 c.requires.constants.0 c.requires.dims.0).held))
+    (search rules, (c.in_ok-root.ensures.is_cell, (ready-next g.row.N c.args.constants.now c.args.within.now c.args.within.now c.args.within.now c.args.bound.now c.in_ok-root.root (let_form c.args.bound.now c.args.body.now) c.args.bound.now.form c.args.work.now c.typed.new.work c.requires refl c.in_ok-root.ensures c.requires.scoped.0 c.requires.constants.0 c.requires.dims.0).held))
 
 pub let_in-typed-requires-2 : goal.let_in-typed-requires-2
 let_in-typed-requires-2 g t c =
@@ -290,7 +290,7 @@ let_in-typed-requires-2 g t c =
             search rules,
             (
               search rules,
-              ready-poly g.row.N c.args.constants.now c.args.within.now (let_form c.args.bound.now c.args.body.now) c.args.body.now.form c.in_ok-own.own c.args.work.now c.typed.new.work c.generalise.new.work c.requires c.in_ok-own.ensures.goes_on c.in_ok-own.ensures.environment c.generalise.ensures.store c.generalise.ensures.pattern c.in_ok-generalise.ensures.entry (λ entry. c.requires.scoped.1) c.requires.constants.1 c.requires.dims.1,
+              ready-poly g.row.N c.args.constants.now c.args.within.now (let_form c.args.bound.now c.args.body.now) c.args.body.now.form c.in_ok-root.root c.args.work.now c.typed.new.work c.generalise.new.work c.requires c.in_ok-root.ensures.goes_on c.in_ok-root.ensures.environment c.generalise.ensures.store c.generalise.ensures.pattern c.in_ok-generalise.ensures.entry (λ entry. c.requires.scoped.1) c.requires.constants.1 c.requires.dims.1,
             ),
           ),
         ),
@@ -299,10 +299,10 @@ let_in-typed-requires-2 g t c =
 
 pub let_in-returns : goal.let_in-returns
 let_in-returns g t c =
-    λ node at. expressed-let g.row.N c.args.constants.now c.requires.table c.args.within.now node at c.args.bound.now c.args.body.now c.in_ok-own.own c.in_ok-cell.cell c.args.work.now c.typed.new.work c.generalise.new.work c.typed-2.new.work _
-    c.in_ok-own.ensures c.generalise.ensures.store c.generalise.ensures.pattern c.in_ok-generalise.ensures.entry c.in_ok-cell.ensures refl refl
+    λ node at. expressed-let g.row.N c.args.constants.now c.requires.table c.args.within.now node at c.args.bound.now c.args.body.now c.in_ok-root.root c.in_ok-cell.cell c.args.work.now c.typed.new.work c.generalise.new.work c.typed-2.new.work _
+    c.in_ok-root.ensures c.generalise.ensures.store c.generalise.ensures.pattern c.in_ok-generalise.ensures.entry c.in_ok-cell.ensures refl refl
     (popped c.pop.result (Poly c.in_ok-generalise.ensures.entry.scheme (mono_cells c.typed.new.work.environment)) _ _ c.args.work.now.environment c.pop.ensures
-    (c.in_ok-cell.ensures.environment ∙ c.in_ok-generalise.ensures.entry.pushed ∙ ap (λ rest. Poly c.in_ok-generalise.ensures.entry.scheme (mono_cells c.typed.new.work.environment) ∷ rest) c.in_ok-own.ensures.environment))
+    (c.in_ok-cell.ensures.environment ∙ c.in_ok-generalise.ensures.entry.pushed ∙ ap (λ rest. Poly c.in_ok-generalise.ensures.entry.scheme (mono_cells c.typed.new.work.environment) ∷ rest) c.in_ok-root.ensures.environment))
 
 pub let_rec-typed-requires : goal.let_rec-typed-requires
 let_rec-typed-requires g t c =

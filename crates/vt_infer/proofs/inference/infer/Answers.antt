@@ -1,4 +1,4 @@
-use Rattle.std.proofs.Common.{◌≡◌, ap, sym, subst, rules, ◌∙◌}
+use Rattle.std.proofs.Common.{rules, ◌∙◌}
 use Rattle.std.proofs.lemmas.Result.{IfOk-weaker}
 use Rattle.vt_infer.proofs.InferredLemmas.{whole_covers, reached_begin, inferred_in}
 use Rattle.vt_infer.proofs.SizeLemmas.{context_fits}
@@ -11,23 +11,21 @@ pub parts-requires : goal.parts-requires
 parts-requires g c = (
   search rules,
   (
-    search rules,
+    context_fits g.row.N c.requires.width,
     (
-      context_fits g.row.N c.requires.width,
+      c.len-constants.ensures.table,
       (
-        c.len-constants.ensures.table,
-        (
-          whole_covers g.row.N c.args.space c.whole-within.result c.whole-within.ensures.all,
-          reached_begin g.row.N c.args.constants.now c.args.core.now c.args.space c.whole-within.result c.whole-within.ensures.all c.started-work.result c.new-marks.result c.started-work.ensures c.requires.closed c.requires.numbered
-              (c.new-marks.ensures ∙ c.new.ensures.items),
-        ),
+        whole_covers g.row.N c.args.space c.whole-within.result c.whole-within.ensures.all,
+        reached_begin g.row.N c.args.constants.now c.args.core.now c.args.space c.whole-within.result c.whole-within.ensures.all c.started-work.result c.new-marks.result c.started-work.ensures c.requires.closed c.requires.numbered
+            (c.new-marks.ensures ∙ c.new.ensures.items),
       ),
     ),
   ),
 )
 
-pub returns-in-Ok-clause-inferred : goal.returns-in-Ok-clause-inferred
-returns-in-Ok-clause-inferred g c =
-    IfOk-weaker c.finished.result _ _
-    (λ typed same. inferred_in g.row.N c.args.constants.now c.args.core.now c.args.space c.whole-within.result c.whole-within.ensures.all _ typed c.parts.ensures same)
-    c.finished.ensures
+pub returns-in-Ok : goal.returns-in-Ok
+returns-in-Ok g c = record {
+  inferred = IfOk-weaker c.finished.result _ _
+      (λ typed same. inferred_in g.row.N c.args.constants.now c.args.core.now c.args.space c.whole-within.result c.whole-within.ensures.all _ typed c.in-Ok.ensures same)
+      c.finished.ensures;
+}
