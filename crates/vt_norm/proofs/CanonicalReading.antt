@@ -1,49 +1,15 @@
 use Rattle.std.proofs.Common.{◌≡◌, ℕ, ◌+◌, ◌<◌, List, [], ◌∷◌, map, refl, sym, ap, subst, ◌∙◌}
 use Rattle.vt_type.specs.declared.plain.Plain.{Plain, Var, Con}
-use Rattle.vt_type.specs.declared.plain.PlainKids.{PlainKids, Nil}
-use Rattle.vt_type.specs.Plain.{kids_of, kid_count, IsWellFormed, AreWellFormed, substituted, kids_substituted, IsInstance}
+use Rattle.vt_type.specs.Plain.{kids_of, IsWellFormed, substituted, kids_substituted, IsInstance}
 use Rattle.vt_type.specs.Canonical.{canonical, first_path}
 use Rattle.vt_type.specs.Laws.{RenamingsShareTheirForm, FormsAreCanonical}
+use Rattle.vt_type.proofs.Renaming.{IsInstance-trans}
+use Rattle.vt_type.proofs.Substituting.{canonical-well_formed, substituted-well_formed}
 use Rattle.vt_store.specs.Ends.{CellEnd, Free, Same, Made}
 use Rattle.vt_store.specs.Laws.{IsOwnSolution}
 use Rattle.vt_store.specs.Solutions.{plain_kids, Fits, Solves, ReadsAs}
 
 -- A cell reads as the canonical form of its type in a most general solution, and as nothing else.
-
--- ---- substitution
-
-mutual
-  twice : (one other : List ℕ → Plain) (type : Plain) → substituted one (substituted other type) ≡ substituted (λ name. substituted one (other name)) type
-  twice one other (Var name) = refl
-  twice one other (Con top kids) = ap (Con top) (kids_twice one other kids)
-
-  kids_twice : (one other : List ℕ → Plain) (kids : PlainKids) → kids_substituted one (kids_substituted other kids) ≡ kids_substituted (λ name. substituted one (other name)) kids
-  kids_twice one other Nil = refl
-  kids_twice one other (kids_of kid kids) = let a = twice one other kid in let b = kids_twice one other kids in λ i. kids_of (a i) (b i)
-
-count-kept : (images : List ℕ → Plain) (kids : PlainKids) → kid_count (kids_substituted images kids) ≡ kid_count kids
-count-kept images Nil = refl
-count-kept images (kids_of kid kids) = ap (λ n. 1 + n) (count-kept images kids)
-
-mutual
-  pub substituted-well_formed : (images : List ℕ → Plain) → ((name : List ℕ) → IsWellFormed (images name)) → (type : Plain) → IsWellFormed type → IsWellFormed (substituted images type)
-  substituted-well_formed images w (Var name) h = w name
-  substituted-well_formed images w (Con top kids) h = (count-kept images kids ∙ h.0, kids-well_formed images w kids h.1)
-
-  kids-well_formed : (images : List ℕ → Plain) → ((name : List ℕ) → IsWellFormed (images name)) → (kids : PlainKids) → AreWellFormed kids → AreWellFormed (kids_substituted images kids)
-  kids-well_formed images w Nil h = tt
-  kids-well_formed images w (kids_of kid kids) h = (substituted-well_formed images w kid h.0, kids-well_formed images w kids h.1)
-
-pub canonical-well_formed : (type : Plain) → IsWellFormed type → IsWellFormed (canonical type)
-canonical-well_formed type w = substituted-well_formed (λ name. Var (first_path type name)) (λ name. tt) type w
-
--- an instance of an instance
-pub instance-of-instance : (one two three : Plain) → IsInstance one two → IsInstance two three → IsInstance one three
-instance-of-instance one two three h k = record {
-  images = λ name. substituted h.images (k.images name);
-  well_formed = λ name. substituted-well_formed h.images h.well_formed (k.images name) (k.well_formed name);
-  same = sym (twice h.images k.images three) ∙ ap (substituted h.images) k.same ∙ h.same;
-}
 
 -- ---- a solution in which the variables are replaced
 
@@ -78,7 +44,7 @@ module _ (shared : RenamingsShareTheirForm) (again : FormsAreCanonical) (n : ℕ
   pub reads-canonical : ReadsAs n e root (canonical (s root))
   reads-canonical = record {
     given = (λ cell. substituted (λ name. Var (first_path (s root) name)) (s cell), solves-replaced n e s (λ name. Var (first_path (s root) name)) (λ name. tt) own.solves, refl);
-    general = λ t solves. instance-of-instance (t root) (s root) (canonical (s root)) (special t solves) back;
+    general = λ t solves. IsInstance-trans (t root) (s root) (canonical (s root)) (special t solves) back;
     canonical = again (s root) well;
   }
 

@@ -6,28 +6,10 @@ use Rattle.vt_dec.specs.declared.side.Side.TheVariants.{Left, Right}
 use Rattle.vt_dec.specs.declared.side.Space.{Space}
 use Rattle.vt_dec.specs.declared.side.Space.TheVariants.{All}
 use Rattle.vt_dec.specs.Decisions.{Region, Agrees, Admits, CanTake, IsSideOf, Narrows, IsKept}
+use Rattle.vt_dec.proofs.Agreement.{Agrees-decided}
 use Rattle.vt_norm.specs.Sides.{taken_side, is_side, agrees, IsPart}
 
 -- Decisions that agree with the sides that are decided.
-
-pub agrees-length : (k : List (Option Side)) (d : List Side) → Agrees k d → length k ≡ length d
-agrees-length [] [] h = refl
-agrees-length (None ∷ k) (side ∷ d) h = ap suc (agrees-length k d h)
-agrees-length (Some own ∷ k) (side ∷ d) h = ap suc (agrees-length k d h.1)
-agrees-length [] (side ∷ d) h = absurd h
-agrees-length (None ∷ k) [] h = absurd h
-agrees-length (Some own ∷ k) [] h = absurd h
-
--- a side that is decided is taken
-pub agrees-get : (k : List (Option Side)) (d : List Side) (dim : ℕ) (side : Side) → Agrees k d → slice_get k dim ≡ Some (Some side) → slice_get d dim ≡ Some side
-agrees-get [] [] dim side h e = cc
-agrees-get (None ∷ k) (own ∷ d) zero side h e = cc
-agrees-get (Some other ∷ k) (own ∷ d) zero side h e = let f = h.0 in cc
-agrees-get (None ∷ k) (own ∷ d) (suc dim) side h e = agrees-get k d dim side h e
-agrees-get (Some other ∷ k) (own ∷ d) (suc dim) side h e = agrees-get k d dim side h.1 e
-agrees-get [] (own ∷ d) dim side h e = absurd h
-agrees-get (None ∷ k) [] dim side h e = absurd h
-agrees-get (Some own ∷ k) [] dim side h e = absurd h
 
 -- a dimension that is open may be taken either way
 pub agrees-open : (k : List (Option Side)) (d : List Side) (dim : ℕ) (side : Side) → Agrees k d → slice_get k dim ≡ Some None → Agrees k (slice_set d dim side)
@@ -115,8 +97,8 @@ open-of-sides region dim part small (left, right) = by _ (find region.sides dim 
     by : (own : Option Side) → slice_get region.sides dim ≡ Some own → slice_get region.sides dim ≡ Some None
     by None e = e
     by (Some side) e =
-        let l = agrees-get region.sides left.0 dim side left.1.agrees e in
-        let r = agrees-get region.sides right.0 dim side right.1.agrees e in
+        let l = Agrees-decided region.sides left.0 dim side left.1.agrees e in
+        let r = Agrees-decided region.sides right.0 dim side right.1.agrees e in
         let f = left.2 in
         let g = right.2 in
         absurd (cc)

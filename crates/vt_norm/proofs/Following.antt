@@ -5,45 +5,30 @@ use Rattle.vt_dec.specs.declared.side.Side.TheVariants.{Left, Right}
 use Rattle.vt_dec.specs.declared.side.Space.{Space}
 use Rattle.vt_dec.specs.declared.side.Space.TheVariants as space
 use Rattle.vt_dec.specs.Decisions.{Region, Agrees, IsSideOf}
+use Rattle.vt_dec.proofs.Agreement.{Agrees-length}
 use Rattle.vt_type.specs.declared.head.Head.{Head}
 use Rattle.vt_type.specs.declared.plain.Plain.{Plain}
-use Rattle.vt_store.specs.Ends.{CellEnd, Free, Same, EachCell, EndsWithin, IsAcyclic, AreArities, HasArity}
+use Rattle.vt_store.specs.Ends.{CellEnd, Free, Same, EachCell, IsAcyclic, AreArities, HasArity}
 use Rattle.vt_store.specs.Ends as ends
 use Rattle.vt_store.specs.Stores.{Cells, cell_count, ends_at, IsOneEnd}
 use Rattle.vt_store.specs.Solutions.{Fits, Solves}
 use Rattle.vt_store.specs.Writes.{IsOf}
+use Rattle.vt_store.proofs.Cells.{IsAcyclic-named}
 use Rattle.vt_norm.specs.declared.front.Spot.{Spot}
 use Rattle.vt_norm.specs.declared.front.Spot.TheVariants.{Made, Open}
 use Rattle.vt_norm.specs.declared.front.Front.{Front}
 use Rattle.vt_norm.specs.Fronts.{spot_at, IsSpotOf, IsJoinedFront}
 use Rattle.vt_norm.specs.Resolving.{LeadsTo, IsResolved}
 use Rattle.vt_norm.specs.Sides.{taken_side}
-use Rattle.vt_norm.proofs.Deciding.{agrees-length, open-of-sides}
+use Rattle.vt_norm.proofs.Deciding.{open-of-sides}
 use Rattle.vt_norm.proofs.Naming.{either_side}
 use Rattle.vt_norm.proofs.FrontNodes.{spot-joined, cells-joined}
 
 -- Links that are followed, and what stands at their end.
 
-ends-within : (n : ℕ) (e : ℕ → CellEnd) (most cell : ℕ) → EndsWithin n e most cell → cell < n
-ends-within n e zero cell h = absurd h
-ends-within n e (suc most) cell h = h.0
-
-each-within : (n : ℕ) (e : ℕ → CellEnd) (most : ℕ) (end : CellEnd) → EachCell (EndsWithin n e most) end → EachCell (λ cell. cell < n) end
-each-within n e most Free h = tt
-each-within n e most (Same cell) h = ends-within n e most cell h
-each-within n e most (ends.Made head kids) h = λ k d within. ends-within n e most _ (h k d within)
-
-named-within : (n : ℕ) (e : ℕ → CellEnd) (most cell : ℕ) → EndsWithin n e most cell → EachCell (λ below. below < n) (e cell)
-named-within n e zero cell h = absurd h
-named-within n e (suc most) cell h = each-within n e most (e cell) h.1
-
--- what a cell is bound to are cells
-pub cells-within : (n : ℕ) (e : ℕ → CellEnd) → IsAcyclic n e → (cell : ℕ) → cell < n → EachCell (λ below. below < n) (e cell)
-cells-within n e acyclic cell h = named-within n e n cell (acyclic cell h)
-
 -- a decision of a part is one of the store's
 pub is-of : (part : List (Option Side)) (d : List Side) → length part ≡ 64 → Agrees part d → IsOf 1 space.All d
-is-of part d sized h = record { sized = sym (agrees-length part d h) ∙ sized; inside = tt }
+is-of part d sized h = record { sized = Agrees-length part d h ∙ sized; inside = tt }
 
 pub is-of-space : (own : Space) (part : List (Option Side)) (d : List Side) → own ≡ space.All → length part ≡ 64 → Agrees part d → IsOf 1 own d
 is-of-space own part d e sized h = rw e (is-of part d sized h)
@@ -61,10 +46,10 @@ leads-on store part first cell next least within leads one a e d b s solves =
     leads d b s solves ∙ subst (Fits s (s cell)) (one-end store part cell least d (Same next) one a e b) (solves.fits cell within)
 
 pub next-within : (store : Cells) (least : List Side) (cell next : ℕ) → IsAcyclic (cell_count store) (ends_at store least) → cell < cell_count store → Same next ≡ ends_at store least cell → next < cell_count store
-next-within store least cell next acyclic h e = subst (EachCell (λ below. below < cell_count store)) (sym e) (cells-within (cell_count store) (ends_at store least) acyclic cell h)
+next-within store least cell next acyclic h e = subst (EachCell (λ below. below < cell_count store)) (sym e) (IsAcyclic-named (cell_count store) (ends_at store least) acyclic cell h)
 
 pub kids-within : (store : Cells) (least : List Side) (cell : ℕ) (head : Head) (kids : List ℕ) → IsAcyclic (cell_count store) (ends_at store least) → cell < cell_count store → ends.Made head kids ≡ ends_at store least cell → All (λ below. below < cell_count store) kids
-kids-within store least cell head kids acyclic h e = subst (EachCell (λ below. below < cell_count store)) (sym e) (cells-within (cell_count store) (ends_at store least) acyclic cell h)
+kids-within store least cell head kids acyclic h e = subst (EachCell (λ below. below < cell_count store)) (sym e) (IsAcyclic-named (cell_count store) (ends_at store least) acyclic cell h)
 
 -- the end of the links
 pub there-open : (store : Cells) (part : List (Option Side)) (first cell : ℕ) (least : List Side) → LeadsTo store part first cell → IsOneEnd store cell (record { sides = part; space = space.All }) → Agrees part least → Free ≡ ends_at store least cell → (d : List Side) → Agrees part d → IsSpotOf (cell_count store) (ends_at store d) first (Open cell)

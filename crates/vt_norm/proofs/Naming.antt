@@ -7,6 +7,7 @@ use Rattle.std.proofs.lemmas.Slice.Eq.{bytes_eq-Decides}
 use Rattle.vt_dec.specs.declared.side.Side.{Side}
 use Rattle.vt_dec.specs.declared.side.Side.TheVariants.{Left, Right}
 use Rattle.vt_dec.specs.Decisions.{Agrees}
+use Rattle.vt_dec.proofs.Agreement.{Agrees-length}
 use Rattle.vt_type.specs.Variational.{by_side}
 use Rattle.vt_norm.specs.declared.names.Met.{Met}
 use Rattle.vt_norm.specs.declared.root.Top.{Top}
@@ -16,7 +17,7 @@ use Rattle.vt_norm.specs.Diagrams.{node, at, joined, same_top}
 use Rattle.vt_norm.specs.Sides.{taken_side, agrees}
 use Rattle.vt_norm.specs.Names.{met_at, name_at, FindsAlike, IsFirstMet, Holds, IsOpenTree, IsNamedTree}
 use Rattle.vt_norm.proofs.Guarding.{at-joined}
-use Rattle.vt_norm.proofs.Deciding.{agrees-true, agrees-test, agrees-set, agrees-length, taken-of-get}
+use Rattle.vt_norm.proofs.Deciding.{agrees-true, agrees-test, agrees-set, taken-of-get}
 
 -- Where an open cell was met first.
 
@@ -57,10 +58,6 @@ names-alike part cell one other here tree alike h = record {
   opens = h.opens;
   names = λ d a. h.names d a ∙ ap (λ found. Named (unwrap_or found here)) (sym (alike d a));
 }
-
--- nothing was met
-pub named-none : (part : List (Option Side)) (met : List Met) (here : List ℕ) (cell : ℕ) → met ≡ [] → IsNamedTree part met here cell (Leaf (Named here))
-named-none part met here cell e = record { opens = tt; names = λ d a. rw e refl }
 
 -- the cell was met first at one place, at each decision of the part
 pub named-first : (part : List (Option Side)) (met : List Met) (entry : Met) (rest : List Met) (here : List ℕ) (cell : ℕ) → met ≡ entry ∷ rest → entry.cell ≡ cell → Holds part entry.part → IsNamedTree part met here cell (Leaf (Named entry.path))
@@ -150,7 +147,7 @@ agrees-by (Some own ∷ k) (side ∷ both) (mine ∷ d) h e same =
 
 pub holds-by : (part entry : List (Option Side)) (both : List Side) → Agrees entry both → Agrees part both → ((dim : ℕ) → dim < length entry → (slice_get entry dim ≡ Some None) ⊎ IsOneSided part dim) → Holds part entry
 holds-by part entry both e p same d h =
-    agrees-by entry both d e (sym (agrees-length part d h) ∙ agrees-length part both p) (λ dim below. elim (same dim below) [ inl o ↦ inl o | inr t ↦ inr (t d both h p) ])
+    agrees-by entry both d e (Agrees-length part d h ∙ sym (Agrees-length part both p)) (λ dim below. elim (same dim below) [ inl o ↦ inl o | inr t ↦ inr (t d both h p) ])
 
 pub skip-along : (part : List (Option Side)) (cell : ℕ) (all one rest : List Met) (entry : Met) → FindsAlike part cell all one → one ≡ entry ∷ rest → ((entry.cell ≡ cell) × (d : List Side) × Agrees entry.part d × Agrees part d → IsTrue false) → FindsAlike part cell all rest
 skip-along part cell all one rest entry alike e apart d h =

@@ -86,13 +86,6 @@ note-both part on_left on_right here front left right one other dim old between 
     by h k d Right t a =
         k.here d a ∙ ap (λ places. places ++ noted here (spot_at d other)) (h.others d (λ b. not_both part dim d opened b a)) ∙ ap (λ spot. met_at d old ++ noted here spot) (sym (spot-taken front left right other dim Right d is f t))
 
--- nothing is noted
-pub noted-none : (part : List (Option Side)) (here : List ℕ) (front : Front) (old : List Met) → ((d : List Side) → noted here (spot_at d front) ≡ []) → IsNoted part here front old old
-noted-none part here front old none = record {
-  here = λ d a. rw (none d) (sym (append-nil (met_at d old)));
-  others = λ d apart. refl;
-}
-
 -- ---- the child
 
 pub below-side : (store : Cells) (part : List (Option Side)) (number : ℕ) (front left right one : Front) (dim : ℕ) (side : Side) (child : Front) → front ≡ Node dim left right → one ≡ by_side (Some side) left right → IsSided part dim side → IsBelow store part number one child → IsBelow store part number front child

@@ -12,6 +12,8 @@ use Rattle.vt_type.specs.Plain.{arity, kids_of, IsWellFormed, plain_nodes, kids_
 use Rattle.vt_type.specs.Canonical.{canonical, first_path, occurrences, kids_occurrences, first_of}
 use Rattle.vt_type.specs.Constants.{pair}
 use Rattle.vt_type.specs.Laws.{RenamingsShareTheirForm, FormsAreCanonical}
+use Rattle.vt_type.proofs.Renaming.{IsInstance-trans}
+use Rattle.vt_type.proofs.Substituting.{canonical-well_formed, substituted-well_formed}
 use Rattle.vt_store.specs.Ends.{CellEnd, Free, Made, EachCell, IsAcyclic, AreArities, HasArity}
 use Rattle.vt_store.specs.Laws.{IsOwnSolution}
 use Rattle.vt_store.specs.Solutions.{plain_kids, Fits, Solves, PairReadsAs}
@@ -19,9 +21,9 @@ use Rattle.vt_store.specs.Views.{Follows, arrived, onward}
 use Rattle.vt_norm.specs.Fronts.{IsTyping}
 use Rattle.vt_norm.specs.declared.pairing.Seen.{Seen}
 use Rattle.vt_norm.specs.Pairing.{places_of, PlainIsMet, PlainKidsAreMet, IsPlain, ArePlain, IsPlainBeyond, ArePlainBeyond}
-use Rattle.vt_norm.proofs.Following.{cells-within}
+use Rattle.vt_store.proofs.Cells.{IsAcyclic-named}
 use Rattle.vt_norm.proofs.Spotting.{named-by}
-use Rattle.vt_norm.proofs.CanonicalReading.{canonical-well_formed, instance-of-instance, solves-replaced, substituted-well_formed}
+use Rattle.vt_norm.proofs.CanonicalReading.{solves-replaced}
 
 -- Reading a cell at one decision.
 
@@ -29,15 +31,12 @@ use Rattle.vt_norm.proofs.CanonicalReading.{canonical-well_formed, instance-of-i
 follow-same : (n : ℕ) (e : ℕ → CellEnd) → IsAcyclic n e → (first last : ℕ) → first < n → Follows e first last → (last < n) × ((s : ℕ → Plain) → Solves n e s → s first ≡ s last)
 follow-same n e acyclic first last within (arrived own) = (within, λ s solves. refl)
 follow-same n e acyclic first last within (onward own next end step rest) =
-    let further = follow-same n e acyclic next last (subst (EachCell (λ below. below < n)) step (cells-within n e acyclic first within)) rest in
+    let further = follow-same n e acyclic next last (subst (EachCell (λ below. below < n)) step (IsAcyclic-named n e acyclic first within)) rest in
     (further.0, λ s solves. subst (Fits s (s first)) step (solves.fits first within) ∙ further.1 s solves)
 
 nodes-positive : (type : Plain) → 0 < plain_nodes type
 nodes-positive (Var name) = lit< tt
 nodes-positive (Con top kids) = omega arith
-
-assoc : {X : Type 0} (one rest later : List X) → (one ++ rest) ++ later ≡ one ++ (rest ++ later)
-assoc one rest later = rw append_assoc refl
 
 regroup : {X : Type 0} (met one rest later : List X) → (met ++ one) ++ (rest ++ later) ≡ met ++ ((one ++ rest) ++ later)
 regroup met one rest later = simp append_assoc
@@ -53,9 +52,6 @@ mutual
   kids_nodes-renamed name_of (kids_of kid kids) = rw (nodes-renamed name_of kid, kids_nodes-renamed name_of kids) refl
 
 module _ (n : ℕ) (e : ℕ → CellEnd) (acyclic : IsAcyclic n e) (cell : ℕ) (within : cell < n) where
-  pub no-room : (room : ℕ) → room ≡ 0 → IsPlainBeyond n e cell room
-  no-room room empty s typing = rw empty (nodes-positive (s cell))
-
   -- ---- an open cell
 
   open-type : (last : ℕ) → Follows e cell last → e last ≡ Free → (s : ℕ → Plain) → IsTyping n e s → s cell ≡ Var (last ∷ [])
@@ -74,7 +70,7 @@ module _ (n : ℕ) (e : ℕ → CellEnd) (acyclic : IsAcyclic n e) (cell : ℕ) 
 
   module _ (head : Head) (kids : List ℕ) (look : (last : ℕ) × Follows e cell last × (e last ≡ Made head kids)) where
     pub kids-cells : All (λ kid. kid < n) kids
-    kids-cells = subst (EachCell (λ below. below < n)) look.2 (cells-within n e acyclic look.0 (follow-same n e acyclic cell look.0 within look.1).0)
+    kids-cells = subst (EachCell (λ below. below < n)) look.2 (IsAcyclic-named n e acyclic look.0 (follow-same n e acyclic cell look.0 within look.1).0)
 
     pub kids-count : AreArities n e → length kids ≡ arity head
     kids-count arities = subst HasArity look.2 (arities look.0 (follow-same n e acyclic cell look.0 within look.1).0)
@@ -99,19 +95,7 @@ has-kids n e acyclic arities cell within head kids look small =
 
 -- ---- children
 
-pub no-more : (kids : List ℕ) (number : ℕ) → length kids ≤ number → drop number kids ≡ []
-no-more [] zero h = refl
-no-more [] (suc number) h = refl
-no-more (kid ∷ kids) zero h = absurd (omega arith)
-no-more (kid ∷ kids) (suc number) h = no-more kids number (omega arith)
-
 module _ (n : ℕ) (e : ℕ → CellEnd) where
-  pub nil-met : (kids : List ℕ) (number : ℕ) (way : List ℕ) (old : List (List ℕ × List ℕ)) → kids ≡ [] → PlainKidsAreMet n e kids number way old old
-  nil-met kids number way old is s typing = rw is (sym (append-nil old))
-
-  pub nil-built : (kids : List ℕ) (number : ℕ) (way : List ℕ) (old : List (List ℕ × List ℕ)) → kids ≡ [] → ArePlain n e kids number way old Nil
-  nil-built kids number way old is s later typing = rw is refl
-
   module _ (kids : List ℕ) (first : ℕ) (others : List ℕ) (is : kids ≡ first ∷ others) (number : ℕ) (way : List ℕ) (old between : List (List ℕ × List ℕ)) where
     pub more-met : (new : List (List ℕ × List ℕ)) → PlainIsMet n e first (way ++ number ∷ []) old between → PlainKidsAreMet n e others (number + 1) way between new → PlainKidsAreMet n e kids number way old new
     more-met new h k s typing = rw is (k s typing ∙ ap (λ own. own ++ kids_occurrences way (number + 1) (plain_kids (map s others))) (h s typing) ∙ (rw append_assoc refl))
@@ -121,13 +105,10 @@ module _ (n : ℕ) (e : ℕ → CellEnd) where
         let rest = kids_occurrences way (number + 1) (plain_kids (map s others)) in
         let own = occurrences (way ++ number ∷ []) (s first) in
         let places = old ++ ((own ++ rest) ++ later) in
-        let a : one ≡ substituted (first_of places) (s first) = h s (rest ++ later) typing ∙ ap (λ list. substituted (first_of (old ++ list)) (s first)) (sym (assoc own rest later)) in
+        let a : one ≡ substituted (first_of places) (s first) = h s (rest ++ later) typing ∙ ap (λ list. substituted (first_of (old ++ list)) (s first)) (sym (append_assoc own rest later)) in
         let b : types ≡ kids_substituted (first_of places) (plain_kids (map s others)) =
         k s later typing ∙ ap (λ list. kids_substituted (first_of list) (plain_kids (map s others))) (ap (λ list. list ++ (rest ++ later)) (met s typing) ∙ regroup old own rest later) in
         rw is (made ∙ (λ i. kids_of (a i) (b i)))
-
-    pub first-beyond : (room : ℕ) → IsPlainBeyond n e first room → ArePlainBeyond n e kids room
-    first-beyond room h s typing = rw is (omega (arith, h s typing))
 
     pub others-beyond : (room less : ℕ) (one : Plain) → IsPlain n e first (way ++ number ∷ []) old one → less + plain_nodes one ≡ room → ArePlainBeyond n e others less → ArePlainBeyond n e kids room
     others-beyond room less one h size k s typing =
@@ -159,7 +140,7 @@ module _ (shared : RenamingsShareTheirForm) (again : FormsAreCanonical) (n : ℕ
   pub reads-pair : PairReadsAs n e left right (substituted naming (s left)) (substituted naming (s right))
   reads-pair = record {
     given = (λ cell. substituted naming (s cell), solves-replaced n e s naming (λ name. tt) own.solves, refl, refl);
-    general = λ t solves. instance-of-instance (pair (t left) (t right)) (pair (s left) (s right)) (canonical (pair (s left) (s right))) (special t solves) back;
+    general = λ t solves. IsInstance-trans (pair (t left) (t right)) (pair (s left) (s right)) (canonical (pair (s left) (s right))) (special t solves) back;
     canonical = again (pair (s left) (s right)) well;
   }
 

@@ -5,6 +5,7 @@ use Rattle.std.proofs.lemmas.List.{append-nil}
 use Rattle.vt_dec.specs.declared.side.Side.{Side}
 use Rattle.vt_dec.specs.declared.side.Space.TheVariants.{All}
 use Rattle.vt_dec.specs.Decisions.{Agrees}
+use Rattle.vt_dec.proofs.Admitting.{Agrees-open}
 use Rattle.vt_type.specs.declared.plain.Plain.{Plain, Var}
 use Rattle.vt_type.specs.declared.vtype.VType.{VType}
 use Rattle.vt_type.specs.Plain.{substituted}
@@ -12,6 +13,7 @@ use Rattle.vt_type.specs.Canonical.{canonical, occurrences, first_of}
 use Rattle.vt_type.specs.Laws.{RenamingsShareTheirForm, FormsAreCanonical}
 use Rattle.vt_type.specs.Variational.{IsWellFormedV, nodes}
 use Rattle.vt_type.specs.NormalForm.{Total, IsNormalForm, IsNormalFormOf}
+use Rattle.vt_type.proofs.Substituting.{canonical-well_formed}
 use Rattle.vt_store.specs.Ends.{IsAcyclic, AreArities}
 use Rattle.vt_store.specs.Laws.{IsOwnSolution, HaveOwnSolution}
 use Rattle.vt_store.specs.Patterns.{FateMap, fate_at, IsShown}
@@ -24,16 +26,10 @@ use Rattle.vt_norm.specs.Fronts.{spot_at, spot_type, occurring, IsSpotOf, IsTypi
 use Rattle.vt_norm.specs.ReadOut.{reads, IsShownFront}
 use Rattle.vt_norm.specs.Readings.{ArePlaces, IsReading, IsOnlyForm, IsBeyond, places_of}
 use Rattle.vt_norm.proofs.Congruence.{for_same_outcomes, for_same_decisions}
-use Rattle.vt_norm.proofs.CanonicalReading.{canonical-well_formed, reads-canonical, reads-only}
+use Rattle.vt_norm.proofs.CanonicalReading.{reads-canonical, reads-only}
 use Rattle.vt_norm.proofs.Tabulated.{IsWellOutcome, has-form}
 
 -- The normal form of what a cell reads as.
-
-all-open : (n : ℕ) (d : List Side) → length d ≡ n → Agrees (replicate n None) d
-all-open zero [] e = tt
-all-open zero (side ∷ d) e = absurd (omega arith)
-all-open (suc n) [] e = absurd (omega arith)
-all-open (suc n) (side ∷ d) e = all-open n d (omega arith)
 
 length-open : (n : ℕ) (d : List Side) → Agrees (replicate n None) d → length d ≡ n
 length-open zero [] h = refl
@@ -43,7 +39,7 @@ length-open (suc n) (side ∷ d) h = ap suc (length-open n d h)
 
 -- the whole part has all decisions
 pub whole-has : (part : List (Option Side)) → part ≡ replicate 64 None → (d : List Side) → Total d ↔ Agrees part d
-whole-has part e d = (λ total. subst (λ k. Agrees k d) (sym e) (all-open 64 d total), λ a. length-open 64 d (subst (λ k. Agrees k d) e a))
+whole-has part e d = (λ total. subst (λ k. Agrees k d) (sym e) (Agrees-open 64 d total), λ a. length-open 64 d (subst (λ k. Agrees k d) e a))
 
 pub shown-places : (store : Cells) (pattern : FateMap) (root mark : ℕ) (part : List (Option Side)) (front : Front) → IsShownFront store pattern root mark part front → ArePlaces store part front
 shown-places store pattern root mark part front h d a = elim (h.spots d a) [ inl s ↦ s.1.right | inr w ↦ rw w.1 tt ]
@@ -128,7 +124,3 @@ module _ (store : Cells) (pattern : FateMap) (root mark : ℕ) (part : List (Opt
         λ one only. only types names f.0 reading here,
         λ room beyond. beyond types names f.0 reading here,
       )
-
-pub both_ok : {X E : Type 0} (r : Result X E) (P Q : X → Type 0) → IfOk r P → IfOk r Q → IfOk r (λ x. P x × Q x)
-both_ok (Ok x) P Q p q = (p, q)
-both_ok (Err e) P Q p q = tt

@@ -34,12 +34,9 @@ use Rattle.vt_norm.proofs.Deciding.{agrees-set, agrees-unset}
 use Rattle.vt_norm.proofs.Naming.{either_side}
 use Rattle.vt_norm.proofs.Least.{least-none, least-some}
 use Rattle.vt_norm.proofs.Rooted.{asks-open, asks-once, is-named, is-wrong, is-made, is-choice}
-use Rattle.vt_norm.proofs.Spotting.{cells-at, root-by-names, made-of-top, noted-named, none-of-wrong, places-of-kids, no-kids, places-of-kid, kid-at-number}
+use Rattle.vt_norm.proofs.Spotting.{cells-at, root-by-names, made-of-top, noted-named, none-of-wrong, places-of-kids, places-of-kid, kid-at-number}
 
 -- What the recursion that reads a cell out does at each step.
-
-regroup_one : {X : Type 0} (one rest later : List X) → (one ++ rest) ++ later ≡ one ++ (rest ++ later)
-regroup_one one rest later = rw append_assoc refl
 
 regroup : {X : Type 0} (met one rest later : List X) → met ++ ((one ++ rest) ++ later) ≡ (met ++ one) ++ (rest ++ later)
 regroup met one rest later = simp append_assoc
@@ -191,12 +188,6 @@ module _ (store : Cells) (part : List (Option Side)) (front : Front) (head : Hea
   none-built met number count e types names Nil reading all h = refl
   none-built met number count e types names (vkids_of w ws) reading all h = absurd (omega arith)
 
-  pub none-met : (met : List Met) (number : ℕ) → arity head ≤ number → KidsAreMet store part front number way met met
-  none-met met number all = record {
-    here = λ d s a typing. sym (append-nil (met_at d met)) ∙ ap (λ more. met_at d met ++ more) (sym (no-kids s (spot_at d front) head (made d a).0 way number (omega (arith, long d a)) (made d a).1));
-    others = λ d apart. refl;
-  }
-
   module _ (number : ℕ) (child : Front) (small : number < arity head) (below : IsBelow store part number front child) where
     -- the child that stands there
     kid : (d : List Side) → Agrees part d → ℕ
@@ -219,7 +210,7 @@ module _ (store : Cells) (part : List (Option Side)) (front : Front) (head : Hea
       typing = reading.typing;
       begins = λ d a. (let b = reading.begins d a in
           let rest = kids_occurrences way (number + 1) (spot_kids (number + 1) (types d) (spot_at d front)) in
-          (rest ++ b.0, b.1 ∙ ap (λ own. met_at d met ++ (own ++ b.0)) (child-places d a (types d) (reading.typing d a)) ∙ ap (λ own. met_at d met ++ own) (regroup_one (places_of types child (way ++ number ∷ []) d) rest b.0)));
+          (rest ++ b.0, b.1 ∙ ap (λ own. met_at d met ++ (own ++ b.0)) (child-places d a (types d) (reading.typing d a)) ∙ ap (λ own. met_at d met ++ own) (append_assoc (places_of types child (way ++ number ∷ []) d) rest b.0)));
     }
 
     rest-reading : (met between : List Met) (types : Typing) (names : Naming) → AreMet store part child (way ++ number ∷ []) met between → IsReading store part met types names (kids_places_of types front number way) → IsReading store part between types names (kids_places_of types front (number + 1) way)
@@ -269,7 +260,7 @@ module _ (store : Cells) (part : List (Option Side)) (front : Front) (head : Hea
     kids-met met between new next after one rest =
         let rest = rw after at rest in
         record {
-          here = λ d s a typing. rest.here d s a typing ∙ ap (λ own. own ++ kids_occurrences way (number + 1) (spot_kids (number + 1) s (spot_at d front))) (one.here d s a typing) ∙ regroup_one (met_at d met) _ _ ∙ ap (λ own. met_at d met ++ own) (sym (child-places d a s typing));
+          here = λ d s a typing. rest.here d s a typing ∙ ap (λ own. own ++ kids_occurrences way (number + 1) (spot_kids (number + 1) s (spot_at d front))) (one.here d s a typing) ∙ append_assoc (met_at d met) _ _ ∙ ap (λ own. met_at d met ++ own) (sym (child-places d a s typing));
           others = λ d apart. rest.others d apart ∙ one.others d apart;
         }
 

@@ -20,6 +20,7 @@ use Rattle.vt_norm.specs.Diagrams.{node, shown, at, Asks, AsksOnce, least, first
 use Rattle.vt_norm.specs.Names.{IsOpenTree}
 use Rattle.vt_norm.specs.Sides.{taken_side}
 use Rattle.vt_norm.proofs.Roots.{same_roots, depends_on_none}
+use Rattle.vt_norm.proofs.Tops.{shown-one}
 use Rattle.vt_norm.proofs.Taking.{with, with-here, with-there, at-agree}
 use Rattle.vt_norm.proofs.Least.{Depends, least-none, least-some, least-least}
 use Rattle.vt_norm.proofs.Sets.{sides-set_here, sides-set_other}
@@ -79,17 +80,6 @@ get-fill (Some side ∷ part) sides (suc dim) e = get-fill part (λ n. sides (su
 
 taken-fill : (part : List (Option Side)) (sides : ℕ → Side) (dim : ℕ) → slice_get part dim ≡ Some None → taken_side (fill part sides) dim ≡ sides dim
 taken-fill part sides dim e = ap (λ s. unwrap_or s Left) (get-fill part sides dim e)
-
-shown-one : (one other : Top) → shown one ≡ shown other → one ≡ other
-shown-one (Made one) (Made other) h = let e : one ≡ other = cc in ap Made e
-shown-one (Named one) (Named other) h = let e : one ≡ other = cc in ap Named e
-shown-one Wrong Wrong h = refl
-shown-one (Made one) (Named other) h = cc
-shown-one (Made one) Wrong h = cc
-shown-one (Named one) (Made other) h = cc
-shown-one (Named one) Wrong h = cc
-shown-one Wrong (Made other) h = cc
-shown-one Wrong (Named other) h = cc
 
 module _ (part : List (Option Side)) (tree : Diagram) (f : List Side → Option Plain)
     (opens : IsOpenTree part tree) (shows : (d : List Side) → Agrees part d → root (f d) ≡ shown (at (taken_side d) tree)) where

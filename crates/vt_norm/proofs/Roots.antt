@@ -8,23 +8,6 @@ use Rattle.vt_type.specs.Plain.{kid_count}
 use Rattle.vt_type.specs.NormalForm.{Map, Decisions, Root, Named, Made, Wrong, root, HasRoot, AllHaveRoot, DependsOn, Kid}
 use Rattle.vt_norm.specs.Laws.{IsSingleValued}
 
--- ---- the outcome of a root
-
-pub named : (outcome : Option Plain) (name : List ℕ) → root outcome ≡ Named name → outcome ≡ Some (plain.Var name)
-named None name is = cc
-named (Some (plain.Var other)) name is = cc
-named (Some (plain.Con top kids)) name is = cc
-
-pub wrong : (outcome : Option Plain) → root outcome ≡ Wrong → outcome ≡ None
-wrong None is = refl
-wrong (Some (plain.Var name)) is = cc
-wrong (Some (plain.Con top kids)) is = cc
-
-pub made : (outcome : Option Plain) (top : Head) (count : ℕ) → root outcome ≡ Made top count → (kids : PlainKids) × (outcome ≡ Some (plain.Con top kids)) × (kid_count kids ≡ count)
-made None top count is = cc
-made (Some (plain.Var name)) top count is = cc
-made (Some (plain.Con other kids)) top count is = (kids, cc, cc)
-
 -- ---- a map with one outcome at each decision
 
 pub kid_is_single : (map : Map) → IsSingleValued map → (n : ℕ) → IsSingleValued (Kid map n)

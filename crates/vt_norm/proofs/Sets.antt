@@ -3,6 +3,7 @@ use Rattle.std.specs.Option.{unwrap_or}
 use Rattle.std.proofs.lemmas.Bool.{cases_eq}
 use Rattle.vt_dec.specs.declared.side.Side.{Side}
 use Rattle.vt_dec.specs.declared.side.Side.TheVariants.{Left}
+use Rattle.vt_dec.proofs.Slices.{slice_get-set_same, slice_get-set_other}
 use Rattle.vt_type.specs.declared.vtype.VType.{VType, Var, Con, Err}
 use Rattle.vt_type.specs.declared.vtype.VKids.{VKids, Nil}
 use Rattle.vt_type.specs.Variational.{vkids_of, choice, IsWellFormedV, AreWellFormedV}
@@ -14,25 +15,13 @@ use Rattle.vt_norm.proofs.Restricting.{sides_of, occurs-restricted}
 
 -- Sets of decisions over which the normal form of a type is looked at.
 
-pub get-set_here : (decision : List Side) (dim : ℕ) (side : Side) → dim < length decision → slice_get (slice_set decision dim side) dim ≡ Some side
-get-set_here [] dim side below = absurd (omega arith)
-get-set_here (first ∷ decision) zero side below = refl
-get-set_here (first ∷ decision) (suc dim) side below = get-set_here decision dim side (omega arith)
-
-pub get-set_other : (decision : List Side) (dim other : ℕ) (side : Side) → other ≢ dim → slice_get (slice_set decision dim side) other ≡ slice_get decision other
-get-set_other [] dim other side ne = refl
-get-set_other (first ∷ decision) zero zero side ne = absurd (ne refl)
-get-set_other (first ∷ decision) zero (suc other) side ne = refl
-get-set_other (first ∷ decision) (suc dim) zero side ne = refl
-get-set_other (first ∷ decision) (suc dim) (suc other) side ne = get-set_other decision dim other side (omega arith)
-
 -- the side that a dimension was set to
 pub sides-set_here : (decision : List Side) (dim : ℕ) (side : Side) → dim < length decision → sides_of (slice_set decision dim side) dim ≡ side
-sides-set_here decision dim side below = ap (λ s. unwrap_or s Left) (get-set_here decision dim side below)
+sides-set_here decision dim side below = ap (λ s. unwrap_or s Left) (slice_get-set_same decision dim side below)
 
 -- the other sides stay
 pub sides-set_other : (decision : List Side) (dim other : ℕ) (side : Side) → other ≢ dim → sides_of (slice_set decision dim side) other ≡ sides_of decision other
-sides-set_other decision dim other side ne = ap (λ s. unwrap_or s Left) (get-set_other decision dim other side ne)
+sides-set_other decision dim other side ne = ap (λ s. unwrap_or s Left) (slice_get-set_other decision dim other side ne)
 
 -- the dimensions of a well-formed type are below 64
 mutual
@@ -92,9 +81,9 @@ pub free_taking : (set : Decisions) (type : VType) (dim : ℕ) (side : Side) →
 free_taking set type dim side free w occurs =
     record {
       decision = slice_set free.decision dim side;
-      inside = (free.closed free.decision dim side free.inside occurs, get-set_here free.decision dim side (omega (arith, free.long free.decision free.inside, occurs-small dim type w occurs)));
+      inside = (free.closed free.decision dim side free.inside occurs, slice_get-set_same free.decision dim side (omega (arith, free.long free.decision free.inside, occurs-small dim type w occurs)));
       long = λ decision h. free.long decision h.0;
       closed = λ decision other two h o.
           (let p = occurs-restricted other dim side type o in
-          (free.closed decision other two h.0 p.0, get-set_other decision other dim two (λ e. p.1 (sym e)) ∙ h.1));
+          (free.closed decision other two h.0 p.0, slice_get-set_other decision other dim two (λ e. p.1 (sym e)) ∙ h.1));
     }

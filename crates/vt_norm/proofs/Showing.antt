@@ -18,22 +18,6 @@ use Rattle.vt_norm.proofs.Placing.{child-taken}
 
 -- The decisions of a part that are shown.
 
-one-fate : (pattern : FateMap) (part : List (Option Side)) (region : Region) (least d : List Side) → region ≡ record { sides = part; space = All } → IsOneFate pattern region → Agrees part least → Agrees part d → fate_at pattern least ≡ fate_at pattern d
-one-fate pattern part region least d e one a b =
-    let one = rw e at one in one least d (record { agrees = a; in_space = tt }) (record { agrees = b; in_space = tt })
-
-pub shown-alone : (store : Cells) (pattern : FateMap) (root mark : ℕ) (part : List (Option Side)) (region : Region) (least : List Side) (front : Front) → region ≡ record { sides = part; space = All } → IsOneFate pattern region → Agrees part least → IsShown mark (fate_at pattern least) → IsResolved store part root front → IsShownFront store pattern root mark part front
-shown-alone store pattern root mark part region least front e one a shown h = record {
-  cells = h.cells;
-  spots = λ d b. inl (subst (IsShown mark) (one-fate pattern part region least d e one a b) shown, h.spots d b);
-}
-
-pub hidden-alone : (store : Cells) (pattern : FateMap) (root mark : ℕ) (part : List (Option Side)) (region : Region) (least : List Side) → region ≡ record { sides = part; space = All } → IsOneFate pattern region → Agrees part least → (IsShown mark (fate_at pattern least) → ⊥) → IsShownFront store pattern root mark part (Leaf Wrong)
-hidden-alone store pattern root mark part region least e one a hidden = record {
-  cells = tt;
-  spots = λ d b. inr (λ shown. hidden (subst (IsShown mark) (sym (one-fate pattern part region least d e one a b)) shown), refl);
-}
-
 -- what is said of a decision depends on what stands there alone
 abbrev Said : Cells → FateMap → ℕ → ℕ → List Side → Spot → Type 0
 Said store pattern root mark d spot =

@@ -20,9 +20,6 @@ use Rattle.vt_norm.proofs.Naming.{either_side}
 
 -- Each entry of the table is right alone.
 
-elsewhere : (x y : ℕ) → (x ≡ y → ⊥) → is_at (nat_cmp x) y ≡ false
-elsewhere x y differ = let other : x ≢ y = differ in grind (arith, nat_tests)
-
 module _ (store : Cells) (part : List (Option Side)) where
   pub itself : (cell : ℕ) → cell < cell_count store → IsAhead store part cell cell
   itself cell within = (within, λ d a s solves. refl)
@@ -35,7 +32,7 @@ module _ (store : Cells) (part : List (Option Side)) where
     where
       by : (cell ≡ own) ⊎ (cell ≡ own → ⊥) → IsAhead store part own (ahead_in new own)
       by (inl same) = subst (λ c. IsAhead store part c (ahead_in new c)) same (subst (IsAhead store part cell) (sym (ap (λ o. unwrap_or o cell) updates.1)) leads)
-      by (inr differ) = subst (IsAhead store part own) (sym (ap (λ o. unwrap_or o own) (updates.2 own (elsewhere cell own differ)))) (known own within)
+      by (inr differ) = subst (IsAhead store part own) (sym (ap (λ o. unwrap_or o own) (updates.2 own (let other : cell ≢ own = differ in grind (arith, nat_tests))))) (known own within)
 
   -- where all the next cells lead, the cell leads
   pub leads-agreed : (least : List Side) → Agrees part least → (known : BTreeMap ℕ ℕ) (cell last : ℕ) (cells : List ℕ) → cell < cell_count store → AreSoles store part known → AreLinked store part cell cells → IsAgreed known cell cells last → IsAhead store part cell last

@@ -11,8 +11,9 @@ use Rattle.vt_type.specs.declared.vtype.VKids.{VKids, Nil}
 use Rattle.vt_type.specs.Plain.{kids_of, kid_count}
 use Rattle.vt_type.specs.Variational.{vkids_of, choice, vkid_count, by_side, selected, kids_selected}
 use Rattle.vt_type.specs.NormalForm.{Map, Decisions, Taking, DependsOn, Kid, kid_at, IsNormalForm, AreNormalForms}
+use Rattle.vt_type.proofs.Roots.{Named-outcome, Made-outcome, Wrong-outcome}
 use Rattle.vt_norm.specs.Laws.{IsSingleValued, AreTotal, IsSound}
-use Rattle.vt_norm.proofs.Roots.{named, wrong, made, kid_is_single}
+use Rattle.vt_norm.proofs.Roots.{kid_is_single}
 
 -- What a normal form selects is the map's outcome.
 
@@ -39,10 +40,10 @@ kid_there map single decision top all here n first outcome at h =
 mutual
   selects_outcome : (type : VType) (map : Map) (set : Decisions) → IsSingleValued map → AreTotal set → IsNormalForm type map set → (decision : List Side) → set decision → map decision (selected decision type)
   selects_outcome (Var name) map set single total h decision inside =
-      let r = h decision inside in subst (map decision) (named _ name r.2) r.1
+      let r = h decision inside in subst (map decision) (Named-outcome _ name r.2) r.1
   selects_outcome (Con top kids) map set single total h decision inside =
       let r = h.0 decision inside in
-      let m = made _ top _ r.2 in
+      let m = Made-outcome _ top _ r.2 in
       let here = subst (map decision) m.1 r.1 in
       let all = select_outcomes kids 0 map set single total h.1 decision inside top m.0 m.0 here (λ k j e. ap (kid_at m.0) (omega arith)) m.2 in
       rw all here
@@ -51,7 +52,7 @@ mutual
       (λ taken. selects_outcome left map (Taking set dim Left) single (λ d t. total d t.0) h.1 decision (inside, taken))
       (λ taken. selects_outcome right map (Taking set dim Right) single (λ d t. total d t.0) h.2 decision (inside, taken))
   selects_outcome Err map set single total h decision inside =
-      let r = h decision inside in subst (map decision) (wrong _ r.2) r.1
+      let r = h decision inside in subst (map decision) (Wrong-outcome _ r.2) r.1
 
   -- the children from number n on are those of the outcome
   select_outcomes : (kids : VKids) (n : ℕ) (map : Map) (set : Decisions) → IsSingleValued map → AreTotal set → AreNormalForms kids n map set → (decision : List Side) → set decision → (top : Head) (all rest : PlainKids) → map decision (Some (plain.Con top all)) → ((k j : ℕ) → j ≡ n + k → kid_at all j ≡ kid_at rest k) → kid_count rest ≡ vkid_count kids → kids_selected decision kids ≡ Some rest

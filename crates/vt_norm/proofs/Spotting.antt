@@ -85,16 +85,6 @@ none-of-wrong s name Wrong way is = refl
 pub places-of-kids : (s : ℕ → Plain) (spot : Spot) (head : Head) (cells way : List ℕ) (number : ℕ) → number ≡ 0 → spot ≡ Made head cells → occurring way (spot_type s spot) ≡ kids_occurrences way number (spot_kids number s spot)
 places-of-kids s spot head cells way number zeroth is = rw (is, zeroth) refl
 
--- no child is left
-pub no-kids : (s : ℕ → Plain) (spot : Spot) (head : Head) (cells way : List ℕ) (number : ℕ) → length cells ≤ number → spot ≡ Made head cells → kids_occurrences way number (spot_kids number s spot) ≡ []
-no-kids s spot head cells way number all is = rw (is, drop-all cells number all) refl
-  where
-    drop-all : (cells : List ℕ) (number : ℕ) → length cells ≤ number → drop number cells ≡ []
-    drop-all [] zero h = refl
-    drop-all [] (suc number) h = refl
-    drop-all (cell ∷ cells) zero h = absurd (omega arith)
-    drop-all (cell ∷ cells) (suc number) h = drop-all cells number (omega arith)
-
 -- the variables of a child come before those of the children after it
 pub places-of-kid : (s : ℕ → Plain) (spot : Spot) (head : Head) (cells way : List ℕ) (number : ℕ) → number < length cells → spot ≡ Made head cells
     → kids_occurrences way number (spot_kids number s spot) ≡ occurrences (way ++ number ∷ []) (s (get_or cells number 0)) ++ kids_occurrences way (number + 1) (spot_kids (number + 1) s spot)

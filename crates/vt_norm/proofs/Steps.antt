@@ -4,6 +4,7 @@ use Rattle.std.proofs.lemmas.Bool.{cases_eq}
 use Rattle.std.proofs.lemmas.Option.{slice_get_within}
 use Rattle.vt_dec.specs.declared.side.Side.{Side}
 use Rattle.vt_dec.specs.declared.side.Side.TheVariants.{Left, Right}
+use Rattle.vt_dec.proofs.Slices.{slice_get-set_same}
 use Rattle.vt_type.specs.declared.head.Head.{Head}
 use Rattle.vt_type.specs.declared.plain.Plain.{Plain}
 use Rattle.vt_type.specs.declared.plain.Plain as plain
@@ -12,30 +13,20 @@ use Rattle.vt_type.specs.declared.vtype.VType.{VType}
 use Rattle.vt_type.specs.Plain.{arity, kid_count}
 use Rattle.vt_type.specs.NormalForm.{Decisions, root, map_of, Kid, DependsOn, IsLeastDimension}
 use Rattle.vt_type.specs.Variational.{IsWellFormedV, nodes, selected}
+use Rattle.vt_type.proofs.Roots.{Made-outcome}
 use Rattle.vt_norm.specs.declared.root.Top.{Top}
 use Rattle.vt_norm.specs.declared.root.Top.TheVariants.{Made, Named, Wrong}
 use Rattle.vt_norm.specs.Parts.{Occurs, restricted, kid}
 use Rattle.vt_norm.specs.Diagrams.{shown, at, Asks, least, first, diagram, IsCarefulOf}
-use Rattle.vt_norm.proofs.Roots.{made}
+use Rattle.vt_norm.proofs.Tops.{shown-one}
 use Rattle.vt_norm.proofs.Taking.{with, with-here, with-there, at-agree}
 use Rattle.vt_norm.proofs.Least.{Depends, least-none, least-some, least-least}
 use Rattle.vt_norm.proofs.Restricting.{sides_of, fewer-restricted}
 use Rattle.vt_norm.proofs.Kids.{selected-kid, fewer-kid, kid_at-below}
 use Rattle.vt_norm.proofs.Diagrams.{once-diagram, asks-diagram, at-diagram}
-use Rattle.vt_norm.proofs.Sets.{IsFreeIn, get-set_here, sides-set_here, sides-set_other, occurs-small, follow}
+use Rattle.vt_norm.proofs.Sets.{IsFreeIn, sides-set_here, sides-set_other, occurs-small, follow}
 
 -- What the diagram of a type says about its root over a set of decisions.
-
-shown-one : (one other : Top) → shown one ≡ shown other → one ≡ other
-shown-one (Made one) (Made other) h = let e : one ≡ other = cc in ap Made e
-shown-one (Named one) (Named other) h = let e : one ≡ other = cc in ap Named e
-shown-one Wrong Wrong h = refl
-shown-one (Made one) (Named other) h = cc
-shown-one (Made one) Wrong h = cc
-shown-one (Named one) (Made other) h = cc
-shown-one (Named one) Wrong h = cc
-shown-one Wrong (Made other) h = cc
-shown-one Wrong (Named other) h = cc
 
 -- where the diagram has no least dimension, its first leaf is the root at each decision
 pub root-constant : (careful : Bool) (type : VType) (top : Top) (decision : List Side) → IsWellFormedV type → IsCarefulOf careful type → least (diagram careful type) ≡ None → first (diagram careful type) ≡ top → root (selected decision type) ≡ shown top
@@ -52,7 +43,7 @@ least-fewer careful type dim side e = fewer-restricted dim side type (least-occu
 
 -- what a type with a constant head selects
 pub made-constant : (careful : Bool) (type : VType) (top : Head) (decision : List Side) → IsWellFormedV type → IsCarefulOf careful type → least (diagram careful type) ≡ None → first (diagram careful type) ≡ Made top → (all : PlainKids) × (selected decision type ≡ Some (plain.Con top all)) × (kid_count all ≡ arity top)
-made-constant careful type top decision w c none e = made _ top (arity top) (root-constant careful type (Made top) decision w c none e)
+made-constant careful type top decision w c none e = Made-outcome _ top (arity top) (root-constant careful type (Made top) decision w c none e)
 
 -- there are fewer nodes in a child
 pub child-fewer : (careful : Bool) (type : VType) (top : Head) (number : ℕ) → IsWellFormedV type → IsCarefulOf careful type → least (diagram careful type) ≡ None → first (diagram careful type) ≡ Made top → number < arity top → nodes (kid number type) < nodes type
@@ -91,7 +82,7 @@ depends careful type set dim w c free (asked, (sides, apart)) =
     let second_small : dim < length one = omega (arith, free.long one inside) in
     let left = comes-to careful type sides dim Left one w c (sides-set_here found.0 dim Left first_small) (λ d ne a. sides-set_other found.0 dim d Left ne ∙ found.1.1 d a) in
     let right = comes-to careful type sides dim Right other w c (sides-set_here one dim Right second_small) (λ d ne a. sides-set_other one dim d Right ne ∙ sides-set_other found.0 dim d Left ne ∙ found.1.1 d a) in
-    (one, get-set_here found.0 dim Left first_small, inside, free.closed one dim Right inside occurs, root (selected one type), root (selected other type), (selected one type, refl, refl), (selected other type, refl, refl), λ e. apart (shown-one _ _ (sym left ∙ e ∙ right)))
+    (one, slice_get-set_same found.0 dim Left first_small, inside, free.closed one dim Right inside occurs, root (selected one type), root (selected other type), (selected one type, refl, refl), (selected other type, refl, refl), λ e. apart (shown-one _ _ (sym left ∙ e ∙ right)))
 
 -- a dimension on which the root depends over the set is no less than the least
 least-bound : (careful : Bool) (type : VType) (set : Decisions) (dim other : ℕ) → IsWellFormedV type → IsCarefulOf careful type → least (diagram careful type) ≡ Some dim → DependsOn (map_of type) set other → dim ≤ other

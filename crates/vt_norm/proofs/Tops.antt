@@ -7,7 +7,7 @@ use Rattle.vt_type.specs.declared.head.Head.TheVariants as head
 use Rattle.vt_type.specs.Plain.{arity}
 use Rattle.vt_norm.specs.declared.root.Top.{Top}
 use Rattle.vt_norm.specs.declared.root.Top.TheVariants.{Made, Named, Wrong}
-use Rattle.vt_norm.specs.Diagrams.{head_kind, head_number, same_head, same_top}
+use Rattle.vt_norm.specs.Diagrams.{shown, head_kind, head_number, same_head, same_top}
 
 -- Roots are compared exactly.
 
@@ -64,3 +64,15 @@ same_top-false one other h e = both_ways _ h ((same_top-Decides one other).1 e)
 -- different roots compare as different
 pub differing_tops : (one other : Top) → one ≢ other → same_top one other ≡ false
 differing_tops one other h = false_from_ne_true _ (λ e. h (same_top-true one other e))
+
+-- a root shows as itself alone
+pub shown-one : (one other : Top) → shown one ≡ shown other → one ≡ other
+shown-one (Made one) (Made other) h = let e : one ≡ other = cc in ap Made e
+shown-one (Named one) (Named other) h = let e : one ≡ other = cc in ap Named e
+shown-one Wrong Wrong h = refl
+shown-one (Made one) (Named other) h = cc
+shown-one (Made one) Wrong h = cc
+shown-one (Named one) (Made other) h = cc
+shown-one (Named one) Wrong h = cc
+shown-one Wrong (Made other) h = cc
+shown-one Wrong (Named other) h = cc

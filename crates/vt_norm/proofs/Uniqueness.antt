@@ -2,6 +2,7 @@ use Rattle.std.proofs.Common.{◌≡◌, ℕ, zero, suc, ◌+◌, ◌<◌, List,
 use Rattle.std.proofs.lemmas.Option.{slice_get_within}
 use Rattle.vt_dec.specs.declared.side.Side.{Side}
 use Rattle.vt_dec.specs.declared.side.Side.TheVariants.{Left, Right}
+use Rattle.vt_dec.proofs.Slices.{slice_get-set_same}
 use Rattle.vt_type.specs.declared.vtype.VType.{VType, Var, Con, Err}
 use Rattle.vt_type.specs.declared.vtype.VKids.{VKids, Nil}
 use Rattle.vt_type.specs.Variational.{vkids_of, choice, vkid_count}
@@ -11,14 +12,9 @@ use Rattle.vt_norm.proofs.Roots.{kid_is_single, same_roots, depends_on_none}
 
 -- A map has at most one normal form over a set that has some decision.
 
-get-set_there : (decision : List Side) (dim : ℕ) (side : Side) → dim < length decision → slice_get (slice_set decision dim side) dim ≡ Some side
-get-set_there [] dim side below = absurd (omega arith)
-get-set_there (first ∷ decision) zero side below = refl
-get-set_there (first ∷ decision) (suc dim) side below = get-set_there decision dim side (omega arith)
-
 -- where the root depends on a dimension, some decision of the set takes its right side
 right_there : (map : Map) (set : Decisions) (dim : ℕ) → (d : DependsOn map set dim) → Taking set dim Right (slice_set d.0 dim Right)
-right_there map set dim d = (d.3, get-set_there d.0 dim Right (slice_get_within _ _ _ d.1))
+right_there map set dim d = (d.3, slice_get-set_same d.0 dim Right (slice_get_within _ _ _ d.1))
 
 mutual
   one_form : (one : VType) (map : Map) (set : Decisions) → IsSingleValued map → (decision : List Side) → set decision → (other : VType) → IsNormalForm one map set → IsNormalForm other map set → one ≡ other

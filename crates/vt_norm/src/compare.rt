@@ -4,7 +4,6 @@ ghost use Rattle.vt_type.specs.Variational.{IsWellFormedV};
 ghost use Rattle.vt_norm.specs.Laws.{SelectAlike};
 
 use crate::normal_form::normal;
-use crate::root::is_same_head;
 use std::alloc::{AllocError, Global};
 use vt_type::{VKids, VType};
 
@@ -21,13 +20,13 @@ pub fn equivalent(alloc: Global, one: &VType, other: &VType) -> Result<bool, All
 
 /// Whether two types are the same tree.
 #[cycle(compare)]
-pub fn is_same(one: &VType, other: &VType) -> bool
+pub(crate) fn is_same(one: &VType, other: &VType) -> bool
     ensures { IsTrue result ↔ (one.now ≡ other.now) }
 {
     match (one, other) {
         (VType::Var(one), VType::Var(other)) => one.as_slice() == other.as_slice(),
         (VType::Con(one, kids), VType::Con(other, others)) => {
-            is_same_head(*one, *other) && are_same(kids, others)
+            one.is_same(*other) && are_same(kids, others)
         }
         (VType::Choice(one, left, right), VType::Choice(other, first, second)) => {
             one.0 == other.0

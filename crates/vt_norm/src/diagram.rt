@@ -9,14 +9,14 @@ use vt_dec::{Dim, Side};
 
 /// A node asks for the side of a dimension, a leaf has the root. No way down asks for a dimension
 /// twice; the dimensions stand in no order.
-#[derive(Debug, Drop)]
-pub enum Diagram {
+#[derive(Drop)]
+pub(crate) enum Diagram {
     Leaf(Top),
     Node(Dim, Boxed<Diagram>, Boxed<Diagram>),
 }
 
 impl Diagram {
-    pub fn node(
+    pub(crate) fn node(
         alloc: Global,
         dim: Dim,
         left: Diagram,
@@ -30,7 +30,7 @@ impl Diagram {
     }
 
     /// The diagram where the dimension takes this side.
-    pub fn taking(&self, alloc: Global, dim: Dim, side: Side) -> Result<Diagram, AllocError>
+    pub(crate) fn taking(&self, alloc: Global, dim: Dim, side: Side) -> Result<Diagram, AllocError>
         ensures { IfOk result (λ tree. tree ≡ taking dim side self.now) }
     {
         match self {
@@ -61,7 +61,7 @@ impl Diagram {
         }
     }
 
-    /// Whether the two come to different roots somewhere.
+    // Whether the two come to different roots somewhere.
     fn differs_from(&self, alloc: Global, other: &Diagram) -> Result<bool, AllocError>
         ensures { IfOk result (λ apart. apart ≡ differ self.now other.now) }
     {
@@ -80,7 +80,7 @@ impl Diagram {
     }
 
     /// The least dimension on which the root depends.
-    pub fn least(&self, alloc: Global) -> Result<Option<Dim>, AllocError>
+    pub(crate) fn least(&self, alloc: Global) -> Result<Option<Dim>, AllocError>
         ensures { IfOk result (λ dim. dim ≡ least self.now) }
     {
         match self {
@@ -100,7 +100,7 @@ impl Diagram {
     }
 
     /// The leaf on the left.
-    pub fn first(&self) -> &Top
+    pub(crate) fn first(&self) -> &Top
         ensures { result.now ≡ first self.now }
     {
         match self {
@@ -110,7 +110,7 @@ impl Diagram {
     }
 
     /// The error where this diagram has it, the other diagram elsewhere.
-    pub fn guarded(&self, alloc: Global, rest: Diagram) -> Result<Diagram, AllocError>
+    pub(crate) fn guarded(&self, alloc: Global, rest: Diagram) -> Result<Diagram, AllocError>
         ensures { IfOk result (λ tree. tree ≡ guarded self.now rest) }
     {
         match self {

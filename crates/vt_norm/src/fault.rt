@@ -1,29 +1,7 @@
 use std::alloc::AllocError;
 use thiserror::Error;
 
-/// Why a type has no normal form to be given.
-#[derive(Debug, Drop, Error)]
-pub enum NormalFault {
-    /// It has more nodes than the limit.
-    #[error("the normal form is too big")]
-    TooBig,
-    /// Memory ran out.
-    #[error("memory ran out")]
-    Memory,
-}
-
-impl From<AllocError> for NormalFault {
-    ghost use Rattle.std.specs.Prelude.{◌≡◌};
-    ghost use Rattle.vt_norm.specs.declared.fault.NormalFault.TheVariants.{Memory};
-
-    ghost from_gives = { λ _ fault. fault ≡ Memory };
-
-    fn from(_error: AllocError) -> NormalFault {
-        NormalFault::Memory
-    }
-}
-
-/// Why what a cell reads as is not given.
+/// Why a type is not given.
 #[derive(Debug, Drop, Error)]
 pub enum OutFault {
     /// It has more nodes than the limit.

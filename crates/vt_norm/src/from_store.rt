@@ -42,16 +42,19 @@ pub fn read_out(
     own_solution();
     same_up_to_renaming();
     canonical_again();
-    let _space = store.space();
+    store.acyclic();
     let part = Part::whole();
     let front = shown_front(&part, alloc, store, root, pattern, mark)?;
     let mut way = Vec::new(alloc);
     let mut met = Vec::new(alloc);
     let mut spare = limit;
-    build(&front, alloc, store, &part, &mut way, &mut met, &mut spare)
+    let built = build(&front, alloc, store, &part, &mut way, &mut met, &mut spare);
+    drop(met);
+    drop(front);
+    built
 }
 
-/// The cell where the decision is shown, the error elsewhere.
+// The cell where the decision is shown, the error elsewhere.
 fn shown_front(
     part: &Part,
     alloc: Global,
@@ -70,8 +73,13 @@ fn shown_front(
             let left = part.with(dim, Side::Left);
             let left = shown_front(&left, alloc, store, root, pattern, mark)?;
             let right = part.with(dim, Side::Right);
-            let right = shown_front(&right, alloc, store, root, pattern, mark)?;
-            Front::joined(alloc, dim, left, right)
+            match shown_front(&right, alloc, store, root, pattern, mark) {
+                Ok(right) => Front::joined(alloc, dim, left, right),
+                Err(fault) => {
+                    drop(left);
+                    Err(fault)
+                }
+            }
         }
         None => {
             if is_shown(pattern.fate(&part.least()), mark) {
@@ -83,7 +91,7 @@ fn shown_front(
     }
 }
 
-/// Alive, or dead at a node above the mark.
+// Alive, or dead at a node above the mark.
 fn is_shown(fate: Fate, mark: NodeId) -> bool
     ensures { IsTrue result ↔ IsShown mark fate }
 {

@@ -3,7 +3,6 @@ ghost use Rattle.std.specs.Prelude.{◌≡◌, ℕ, IfOk, IsTrue};
 ghost use Rattle.vt_dec.specs.declared.side.Side.{Side};
 ghost use Rattle.vt_norm.specs.Fronts.{node, spot_at, by_sides, HaveCells, IsJoinedFront};
 
-use crate::root::is_same_head;
 use sqlite_items::Boxed;
 use std::alloc::{AllocError, Global};
 use vt_dec::Dim;
@@ -11,7 +10,7 @@ use vt_store::{CellId, CellList};
 use vt_type::Head;
 
 /// What stands there at one decision.
-#[derive(Debug, Drop)]
+#[derive(Drop)]
 pub(crate) enum Spot {
     /// A head over the cells of its children.
     Made(Head, CellList),
@@ -22,7 +21,7 @@ pub(crate) enum Spot {
 }
 
 /// A node asks for the side of a dimension.
-#[derive(Debug, Drop)]
+#[derive(Drop)]
 pub(crate) enum Front {
     Leaf(Spot),
     Node(Dim, Boxed<Front>, Boxed<Front>),
@@ -35,7 +34,7 @@ impl Spot {
         match self {
             Spot::Made(head, kids) => match other {
                 Spot::Made(own, others) => {
-                    is_same_head(*head, *own) && are_same_cells(kids.as_slice(), others.as_slice())
+                    head.is_same(*own) && are_same_cells(kids.as_slice(), others.as_slice())
                 }
                 Spot::Open(_) => false,
                 Spot::Wrong => false,
@@ -75,7 +74,7 @@ impl Front {
         Ok(Front::Node(dim, left, right))
     }
 
-    /// The two are one tree.
+    // The two are one tree.
     fn is_same(&self, other: &Front) -> bool
         ensures { IsTrue result → self.now ≡ other.now }
     {

@@ -35,7 +35,7 @@ mod sole;
 mod tests;
 
 pub use compare::equivalent;
-pub use fault::{NormalFault, OutFault};
+pub use fault::OutFault;
 pub use from_store::read_out;
 pub use normal_form::{normal, normal_within};
 pub use pairing::{PlainPair, read_pair};

@@ -18,21 +18,21 @@ use vt_store::CellId;
 use vt_type::Path;
 
 /// An open cell, with the path at which it was met at the decisions of a part.
-#[derive(Debug, Drop)]
+#[derive(Drop)]
 pub(crate) struct Met {
     pub(crate) cell: CellId,
     pub(crate) path: Path,
     pub(crate) part: Part,
 }
 
-/// The cell was met at some decision of the part.
+// The cell was met at some decision of the part.
 fn is_met(entry: &Met, cell: CellId, part: &Part) -> bool
     ensures { IsTrue result ↔ (entry.now.cell ≡ cell) × (d : List Side) × Agrees entry.now.part d × Agrees part.now d }
 {
     entry.cell == cell && entry.part.meets(part)
 }
 
-/// What is left of the list from the first place on at which the cell was met in the part.
+// What is left of the list from the first place on at which the cell was met in the part.
 fn first_met<'a>(met: &'a [Met], cell: CellId, part: &Part) -> &'a [Met]
     ensures alike { FindsAlike part.now cell met.now result.now }
     ensures first { IsFirstMet part.now cell result.now }
@@ -47,7 +47,7 @@ fn first_met<'a>(met: &'a [Met], cell: CellId, part: &Part) -> &'a [Met]
     rest
 }
 
-/// A dimension that the one part decides and the other leaves open.
+// A dimension that the one part decides and the other leaves open.
 fn open_in(entry: &Part, part: &Part) -> Option<Dim>
     ensures open { IfSome result (λ dim. slice_get part.now dim ≡ Some None) }
     ensures none { result ≡ None → (both : List Side) → Agrees entry.now both → Agrees part.now both → Holds part.now entry.now }

@@ -4,11 +4,11 @@ ghost use Rattle.vt_type.specs.Plain.{arity};
 ghost use Rattle.vt_type.specs.Variational.{IsWellFormedV, nodes, vkids_nodes, vkid_count};
 ghost use Rattle.vt_type.specs.NormalForm.{IsNormalFormOf, map_of};
 ghost use Rattle.vt_norm.specs.declared.root.Top.TheVariants.{Made};
-ghost use Rattle.vt_norm.specs.Parts.{kid};
+ghost use Rattle.vt_norm.specs.Parts.{kid, restricted};
 ghost use Rattle.vt_norm.specs.Diagrams.{diagram, least, first, IsCarefulOf};
 ghost use Rattle.vt_norm.specs.Normalizing.{Normalizes, KidsNormalize, ComesBeyond, KidsComeBeyond};
 
-use crate::fault::NormalFault;
+use crate::fault::OutFault;
 use crate::parts::{kid, kid_in_place, restricted};
 use crate::root::Top;
 use crate::rooting::diagram_of;
@@ -34,11 +34,11 @@ pub fn normal(alloc: Global, vtype: &VType) -> Result<VType, AllocError>
 
 /// The normal form of a type, or `TooBig` where it has more than `limit` nodes. No more than that many
 /// nodes are built.
-pub fn normal_within(alloc: Global, vtype: &VType, limit: u64) -> Result<VType, NormalFault>
+pub fn normal_within(alloc: Global, vtype: &VType, limit: u64) -> Result<VType, OutFault>
     requires { IsWellFormedV vtype.now }
     ensures normal { IfOk result (λ v. IsNormalFormOf v (map_of vtype.now) × (nodes v ≤ limit)) }
     ensures well_formed { IfOk result IsWellFormedV }
-    ensures too_big { IsErrOf result NormalFault.TooBig
+    ensures too_big { IsErrOf result OutFault.TooBig
         → (v : VType) × IsNormalFormOf v (map_of vtype.now) × (limit < nodes v) }
 {
     let careful = vtype.has_error();
@@ -48,27 +48,45 @@ pub fn normal_within(alloc: Global, vtype: &VType, limit: u64) -> Result<VType, 
 
 // Each node that is built takes one from `spare`.
 #[cycle(build)]
-fn build(vtype: &VType, alloc: Global, careful: bool, spare: &mut u64) -> Result<VType, NormalFault>
+fn build(vtype: &VType, alloc: Global, careful: bool, spare: &mut u64) -> Result<VType, OutFault>
     requires well_formed { IsWellFormedV vtype.now }
     requires careful { IsCarefulOf careful vtype.now }
     ensures built { IfOk result (λ v. Normalizes careful v vtype.now × (spare.new + nodes v ≡ spare.old)) }
-    ensures too_big { IsErrOf result NormalFault.TooBig → ComesBeyond careful vtype.now spare.old }
+    ensures too_big { IsErrOf result OutFault.TooBig → ComesBeyond careful vtype.now spare.old }
 {
     if *spare == 0 {
-        return Err(NormalFault::TooBig);
+        return Err(OutFault::TooBig);
     }
     *spare -= 1;
     let tree = diagram_of(vtype, alloc, careful)?;
-    match tree.least(alloc)? {
-        Some(dim) => split(vtype, alloc, careful, spare, dim),
+    let least = match tree.least(alloc) {
+        Ok(least) => least,
+        Err(fault) => {
+            drop(tree);
+            return Err(OutFault::from(fault));
+        }
+    };
+    match least {
+        Some(dim) => {
+            drop(tree);
+            split(vtype, alloc, careful, spare, dim)
+        }
         None => match tree.first() {
             Top::Made(head) => {
                 let head = *head;
+                drop(tree);
                 let kids = build_kids(vtype, alloc, careful, spare, head, head.arity())?;
                 Ok(VType::Con(head, kids))
             }
-            Top::Named(name) => Ok(VType::Var(name.copied(alloc)?)),
-            Top::Wrong => Ok(VType::Err),
+            Top::Named(name) => {
+                let name = name.copied(alloc);
+                drop(tree);
+                Ok(VType::Var(name?))
+            }
+            Top::Wrong => {
+                drop(tree);
+                Ok(VType::Err)
+            }
         },
     }
 }
@@ -81,18 +99,44 @@ fn split(
     careful: bool,
     spare: &mut u64,
     dim: Dim,
-) -> Result<VType, NormalFault>
+) -> Result<VType, OutFault>
     requires well_formed { IsWellFormedV vtype.now }
     requires careful { IsCarefulOf careful vtype.now }
     requires least { least (diagram careful vtype.now) ≡ Some dim }
     ensures built { IfOk result (λ v. Normalizes careful v vtype.now × (spare.new + nodes v ≡ spare.old + 1)) }
-    ensures too_big { IsErrOf result NormalFault.TooBig → ComesBeyond careful vtype.now (spare.old + 1) }
+    ensures too_big { IsErrOf result OutFault.TooBig → ComesBeyond careful vtype.now (spare.old + 1) }
 {
-    let on_left = restricted(vtype, alloc, dim, Side::Left)?;
-    let left = build(&on_left, alloc, careful, spare)?;
-    let on_right = restricted(vtype, alloc, dim, Side::Right)?;
-    let right = build(&on_right, alloc, careful, spare)?;
+    let left = build_side(vtype, alloc, careful, spare, dim, Side::Left)?;
+    let right = match build_side(vtype, alloc, careful, spare, dim, Side::Right) {
+        Ok(right) => right,
+        Err(fault) => {
+            drop(left);
+            return Err(fault);
+        }
+    };
     Ok(VType::choice(alloc, dim, left, right)?)
+}
+
+// One side of such a choice.
+#[cycle(build)]
+fn build_side(
+    vtype: &VType,
+    alloc: Global,
+    careful: bool,
+    spare: &mut u64,
+    dim: Dim,
+    side: Side,
+) -> Result<VType, OutFault>
+    requires well_formed { IsWellFormedV vtype.now }
+    requires careful { IsCarefulOf careful vtype.now }
+    requires least { least (diagram careful vtype.now) ≡ Some dim }
+    ensures built { IfOk result (λ v. Normalizes careful v (restricted dim side vtype.now) × (spare.new + nodes v ≡ spare.old)) }
+    ensures too_big { IsErrOf result OutFault.TooBig → ComesBeyond careful (restricted dim side vtype.now) spare.old }
+{
+    let part = restricted(vtype, alloc, dim, side)?;
+    let built = build(&part, alloc, careful, spare);
+    drop(part);
+    built
 }
 
 // The last `count` children below a head.
@@ -104,7 +148,7 @@ fn build_kids(
     spare: &mut u64,
     head: Head,
     count: u8,
-) -> Result<VKids, NormalFault>
+) -> Result<VKids, OutFault>
     requires well_formed { IsWellFormedV vtype.now }
     requires careful { IsCarefulOf careful vtype.now }
     requires none { least (diagram careful vtype.now) ≡ None }
@@ -112,14 +156,20 @@ fn build_kids(
     requires within { count ≤ arity head }
     ensures built { IfOk result (λ kids. KidsNormalize careful kids (arity head - count) vtype.now
         × (vkid_count kids ≡ count) × (spare.new + vkids_nodes kids ≡ spare.old)) }
-    ensures too_big { IsErrOf result NormalFault.TooBig
+    ensures too_big { IsErrOf result OutFault.TooBig
         → KidsComeBeyond careful (arity head - count) count vtype.now spare.old }
 {
     if count == 0 {
         return Ok(VKids::Nil);
     }
     let first = build_kid(vtype, alloc, careful, spare, head.arity() - count)?;
-    let others = build_kids(vtype, alloc, careful, spare, head, count - 1)?;
+    let others = match build_kids(vtype, alloc, careful, spare, head, count - 1) {
+        Ok(others) => others,
+        Err(fault) => {
+            drop(first);
+            return Err(fault);
+        }
+    };
     Ok(VKids::more(alloc, first, others)?)
 }
 
@@ -131,17 +181,19 @@ fn build_kid(
     careful: bool,
     spare: &mut u64,
     number: u8,
-) -> Result<VType, NormalFault>
+) -> Result<VType, OutFault>
     requires well_formed { IsWellFormedV (kid number vtype.now) }
     requires careful { IsCarefulOf careful (kid number vtype.now) }
     ensures built { IfOk result (λ v. Normalizes careful v (kid number vtype.now) × (spare.new + nodes v ≡ spare.old)) }
-    ensures too_big { IsErrOf result NormalFault.TooBig → ComesBeyond careful (kid number vtype.now) spare.old }
+    ensures too_big { IsErrOf result OutFault.TooBig → ComesBeyond careful (kid number vtype.now) spare.old }
 {
     match kid_in_place(vtype, number) {
         Some(child) => build(child, alloc, careful, spare),
         None => {
             let child = kid(vtype, alloc, number)?;
-            build(&child, alloc, careful, spare)
+            let built = build(&child, alloc, careful, spare);
+            drop(child);
+            built
         }
     }
 }

@@ -23,7 +23,7 @@ fn fun(alloc: Global, from: VType, to: VType) -> Result<VType, AllocError> {
     Ok(VType::Con(Head::Fun, kids))
 }
 
-/// A function from a variable or an integer, by the first dimension, to the variable.
+// A function from a variable or an integer, by the first dimension, to the variable.
 fn variable_or_int(store: &mut Store<1>) -> Result<CellId, AllocError>
     ensures cell { IfOk result (λ cell. cell < cell_count store.new) }
     ensures space { store.new.space ≡ store.old.space }
@@ -49,7 +49,7 @@ fn read_variable_or_int(alloc: Global, limit: u64) -> Result<VType, OutFault> {
     read_out(alloc, &store, cell, &pattern, NodeId(0), limit)
 }
 
-/// Its normal form has seven nodes.
+// Its normal form has seven nodes.
 fn is_read(alloc: Global) -> Result<bool, OutFault> {
     let found = read_variable_or_int(alloc, 7)?;
     let wanted = fun(alloc, wanted_from(alloc)?, wanted_to(alloc)?)?;
@@ -64,7 +64,7 @@ fn a_choice_is_read_out_with_canonical_names(rt: HostRuntime) -> Result<(), Fail
     Ok(())
 }
 
-/// What is read where the right of the first dimension is dead at the fourth node.
+// What is read where the right of the first dimension is dead at the fourth node.
 fn read_with_dead_right(alloc: Global, mark: NodeId) -> Result<VType, OutFault> {
     let mut store = Store::<1>::new(alloc, Space::All);
     let cell = store.con(Head::Int, &[])?;
@@ -88,7 +88,7 @@ fn what_is_dead_is_an_error_up_to_the_mark(rt: HostRuntime) -> Result<(), Fail> 
     Ok(())
 }
 
-/// Choices that come together again, one after another, so that there are 2^count ways to one cell.
+// Choices that come together again, one after another, so that there are 2^count ways to one cell.
 fn chain(store: &mut Store<1>, count: u32) -> Result<CellId, AllocError>
     requires { count ≤ 64 }
     ensures cell { IfOk result (λ cell. cell < cell_count store.new) }
@@ -102,7 +102,7 @@ fn chain(store: &mut Store<1>, count: u32) -> Result<CellId, AllocError>
     store.choice(Dim(count - 1), cell, copy)
 }
 
-/// Pairs of one cell, each pair a child of the next one twice.
+// Pairs of one cell, each pair a child of the next one twice.
 fn doubled(store: &mut Store<1>, count: u32) -> Result<CellId, AllocError>
     ensures cell { IfOk result (λ cell. cell < cell_count store.new) }
     ensures space { store.new.space ≡ store.old.space }
@@ -137,7 +137,7 @@ fn what_is_shared_is_cheap(rt: HostRuntime) -> Result<(), Fail> {
     Ok(())
 }
 
-/// A variable and a list of it have one name for it, the place in the pair of the two.
+// A variable and a list of it have one name for it, the place in the pair of the two.
 fn pair_shares_a_name(alloc: Global) -> Result<bool, OutFault> {
     let mut store = Store::<1>::new(alloc, Space::All);
     let open = store.fresh()?;

@@ -29,8 +29,8 @@ pub struct PlainPair {
     pub result: Plain,
 }
 
-/// An open cell, with the path at which it was met first.
-#[derive(Debug, Drop)]
+// An open cell, with the path at which it was met first.
+#[derive(Drop)]
 struct Seen {
     cell: CellId,
     path: Path,
@@ -60,14 +60,27 @@ pub fn read_pair<const N: usize>(
     own_solution();
     same_up_to_renaming();
     canonical_again();
-    let _space = store.space();
+    store.acyclic();
     let mut seen = Vec::new(alloc);
-    let wanted = type_below(alloc, store, decision, wanted, 0, &mut seen, limit)?;
-    let result = type_below(alloc, store, decision, whole, 1, &mut seen, limit)?;
-    Ok(PlainPair { wanted, result })
+    let wanted = match type_below(alloc, store, decision, wanted, 0, &mut seen, limit) {
+        Ok(wanted) => wanted,
+        Err(fault) => {
+            drop(seen);
+            return Err(fault);
+        }
+    };
+    let result = type_below(alloc, store, decision, whole, 1, &mut seen, limit);
+    drop(seen);
+    match result {
+        Ok(result) => Ok(PlainPair { wanted, result }),
+        Err(fault) => {
+            drop(wanted);
+            Err(fault)
+        }
+    }
 }
 
-/// The type of a cell that is the child of this number of a pair.
+// The type of a cell that is the child of this number of a pair.
 fn type_below<const N: usize>(
     alloc: Global,
     store: &Store<N>,
@@ -90,7 +103,7 @@ fn type_below<const N: usize>(
     plain(store, alloc, decision, cell, &mut way, seen, &mut spare)
 }
 
-/// The type of a cell. `way` is the path at which it stands, and each node takes one from `spare`.
+// The type of a cell. `way` is the path at which it stands, and each node takes one from `spare`.
 #[cycle(plain)]
 fn plain<const N: usize>(
     store: &Store<N>,
@@ -122,7 +135,7 @@ fn plain<const N: usize>(
     }
 }
 
-/// The types of the children from this number on.
+// The types of the children from this number on.
 #[cycle(plain)]
 fn plain_kids<const N: usize>(
     store: &Store<N>,
@@ -150,11 +163,17 @@ fn plain_kids<const N: usize>(
     enter(way, number)?;
     let first = plain(store, alloc, decision, kid, way, seen, spare)?;
     way.pop();
-    let others = plain_kids(store, alloc, decision, kids, number + 1, way, seen, spare)?;
+    let others = match plain_kids(store, alloc, decision, kids, number + 1, way, seen, spare) {
+        Ok(others) => others,
+        Err(fault) => {
+            drop(first);
+            return Err(fault);
+        }
+    };
     Ok(PlainKids::more(alloc, first, others)?)
 }
 
-/// What the cell is bound to once links are followed, with what is known of its children.
+// What the cell is bound to once links are followed, with what is known of its children.
 fn looked<'a, const N: usize>(store: &'a Store<N>, cell: CellId, decision: &Decision<N>) -> Look<'a>
     requires cell { cell < cell_count store.now }
     requires decision { IsOf N store.now.space decision.now }
@@ -162,8 +181,8 @@ fn looked<'a, const N: usize>(store: &'a Store<N>, cell: CellId, decision: &Deci
     ensures kids { HasKids (cell_count store.now) result }
     ensures acyclic { IsAcyclic (cell_count store.now) (ends_at store.now decision.now) }
 {
-    // What it ensures of the store is that the children are cells, as many as the arity says.
-    let _space = store.space();
+    // The children are cells, as many as the arity says.
+    store.acyclic();
     let look = store.look(cell, decision);
     match look {
         Look::Open(_) => {}
@@ -174,7 +193,7 @@ fn looked<'a, const N: usize>(store: &'a Store<N>, cell: CellId, decision: &Deci
     look
 }
 
-/// The path at which the open cell was met first. That is here where it was not met before.
+// The path at which the open cell was met first. That is here where it was not met before.
 fn meet(alloc: Global, seen: &mut Vec<Seen>, cell: CellId, here: &[u8]) -> Result<Path, AllocError>
     ensures first { IfOk result (λ path. path ≡ unwrap_or (lookup (bytes_eq (cell ∷ [])) (places_of seen.old.items)) here.now) }
     ensures met { OnOk result (places_of seen.new.items ≡ places_of seen.old.items ++ (cell ∷ [], here.now) ∷ []) }

@@ -42,7 +42,12 @@ fn kids_copied(kids: &VKids, alloc: Global) -> Result<VKids, AllocError>
 
 /// The type with each choice by the dimension replaced by its alternative of this side.
 #[cycle(restrict)]
-pub fn restricted(vtype: &VType, alloc: Global, dim: Dim, side: Side) -> Result<VType, AllocError>
+pub(crate) fn restricted(
+    vtype: &VType,
+    alloc: Global,
+    dim: Dim,
+    side: Side,
+) -> Result<VType, AllocError>
     ensures { IfOk result (λ part. part ≡ restricted dim side vtype.now) }
 {
     match vtype {
@@ -97,7 +102,7 @@ fn kid_at(kids: &VKids, number: u8) -> Option<&VType>
 }
 
 /// The child of this number, where the type is a constructor that has it.
-pub fn kid_in_place(vtype: &VType, number: u8) -> Option<&VType>
+pub(crate) fn kid_in_place(vtype: &VType, number: u8) -> Option<&VType>
     ensures { IfSome result (λ child. child.now ≡ kid number vtype.now) }
 {
     match vtype {
@@ -110,7 +115,7 @@ pub fn kid_in_place(vtype: &VType, number: u8) -> Option<&VType>
 
 /// The child of this number under the choices at the root, which stay. What has no such child stays
 /// as it is.
-pub fn kid(vtype: &VType, alloc: Global, number: u8) -> Result<VType, AllocError>
+pub(crate) fn kid(vtype: &VType, alloc: Global, number: u8) -> Result<VType, AllocError>
     ensures { IfOk result (λ part. part ≡ kid number vtype.now) }
 {
     match vtype {

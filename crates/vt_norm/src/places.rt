@@ -51,7 +51,7 @@ pub(crate) fn below(
     }
 }
 
-/// The child of this number of a head that has it.
+// The child of this number of a head that has it.
 fn spot_below(
     spot: &Spot,
     alloc: Global,

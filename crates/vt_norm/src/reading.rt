@@ -51,25 +51,43 @@ pub(crate) fn build(
     }
     *spare -= 1;
     let tree = tops(front, alloc, met, way, part)?;
-    match tree.least(alloc)? {
-        Some(dim) => split(front, alloc, store, part, way, met, spare, &tree, dim),
+    let least = match tree.least(alloc) {
+        Ok(least) => least,
+        Err(fault) => {
+            drop(tree);
+            return Err(OutFault::from(fault));
+        }
+    };
+    match least {
+        Some(dim) => {
+            let built = split(front, alloc, store, part, way, met, spare, &tree, dim);
+            drop(tree);
+            built
+        }
         None => match tree.first() {
             Top::Made(head) => {
                 let head = *head;
+                drop(tree);
                 let count = head.arity();
                 let kids = build_kids(front, alloc, store, part, way, met, spare, head, count)?;
                 Ok(VType::Con(head, kids))
             }
             Top::Named(name) => {
+                let name = name.copied(alloc);
+                drop(tree);
+                let name = name?;
                 note(front, alloc, met, way, part)?;
-                Ok(VType::Var(name.copied(alloc)?))
+                Ok(VType::Var(name))
             }
-            Top::Wrong => Ok(VType::Err),
+            Top::Wrong => {
+                drop(tree);
+                Ok(VType::Err)
+            }
         },
     }
 }
 
-/// A choice between the two sides of a dimension. Its own node is taken already.
+// A choice between the two sides of a dimension. Its own node is taken already.
 #[cycle(reading)]
 fn split(
     front: &Front,
@@ -96,11 +114,17 @@ fn split(
     let on_left = part.with(dim, Side::Left);
     let left = build(front, alloc, store, &on_left, way, met, spare)?;
     let on_right = part.with(dim, Side::Right);
-    let right = build(front, alloc, store, &on_right, way, met, spare)?;
+    let right = match build(front, alloc, store, &on_right, way, met, spare) {
+        Ok(right) => right,
+        Err(fault) => {
+            drop(left);
+            return Err(fault);
+        }
+    };
     Ok(VType::choice(alloc, dim, left, right)?)
 }
 
-/// The last `count` children below a head.
+// The last `count` children below a head.
 #[cycle(reading)]
 fn build_kids(
     front: &Front,
@@ -128,11 +152,19 @@ fn build_kids(
         return Ok(VKids::Nil);
     }
     let number = head.arity() - count;
-    let child = below(front, alloc, store, number, part)?;
     enter(way, number)?;
-    let first = build(&child, alloc, store, part, way, met, spare)?;
+    let child = below(front, alloc, store, number, part)?;
+    let first = build(&child, alloc, store, part, way, met, spare);
+    drop(child);
+    let first = first?;
     way.pop();
-    let others = build_kids(front, alloc, store, part, way, met, spare, head, count - 1)?;
+    let others = match build_kids(front, alloc, store, part, way, met, spare, head, count - 1) {
+        Ok(others) => others,
+        Err(fault) => {
+            drop(first);
+            return Err(fault);
+        }
+    };
     Ok(VKids::more(alloc, first, others)?)
 }
 

@@ -15,7 +15,7 @@ use vt_dec::{Dim, Side};
 use vt_store::{CellId, CellList, End, Store};
 
 /// How far the links of a cell can be followed at once.
-#[derive(Debug, Drop)]
+#[derive(Drop)]
 pub(crate) enum Turn {
     /// To a cell whose own diagram asks for the side of a dimension.
     Split(CellId, Dim),
@@ -23,14 +23,14 @@ pub(crate) enum Turn {
     There(Spot),
 }
 
-/// Follows the links of a cell as long as they are the same at all decisions of the part.
+// Follows the links of a cell as long as they are the same at all decisions of the part.
 fn follow(store: &Store<1>, alloc: Global, cell: CellId, part: &Part) -> Result<Turn, AllocError>
     requires cell { cell < cell_count store.now }
     requires space { store.now.space ≡ All }
     ensures { IfOk result (IsTurn store.now part.now cell) }
 {
-    // What it ensures of the store is that each next cell is one.
-    let _space = store.space();
+    // Each next cell is one of the store.
+    store.acyclic();
     let within = part.context();
     let mut last = cell;
     // No cell contains itself, so the bound is never met: no store has that many cells.

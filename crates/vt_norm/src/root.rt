@@ -5,8 +5,8 @@ use std::alloc::{AllocError, Global};
 use vt_type::{Head, Path};
 
 /// The root of a well-formed type: the head says how many children there are.
-#[derive(Debug, Drop)]
-pub enum Top {
+#[derive(Drop)]
+pub(crate) enum Top {
     Made(Head),
     Named(Path),
     /// The error stands at the root or anywhere below it.
@@ -14,7 +14,7 @@ pub enum Top {
 }
 
 impl Top {
-    pub fn copied(&self, alloc: Global) -> Result<Top, AllocError>
+    pub(crate) fn copied(&self, alloc: Global) -> Result<Top, AllocError>
         ensures { IfOk result (λ top. top ≡ self.now) }
     {
         match self {
@@ -24,20 +24,14 @@ impl Top {
         }
     }
 
-    pub fn is_same(&self, other: &Top) -> bool
+    pub(crate) fn is_same(&self, other: &Top) -> bool
         ensures { IsTrue result ↔ (self.now ≡ other.now) }
     {
         match (self, other) {
-            (Top::Made(head), Top::Made(other)) => is_same_head(*head, *other),
+            (Top::Made(head), Top::Made(other)) => head.is_same(*other),
             (Top::Named(name), Top::Named(other)) => name.as_slice() == other.as_slice(),
             (Top::Wrong, Top::Wrong) => true,
             _ => false,
         }
     }
-}
-
-pub fn is_same_head(head: Head, other: Head) -> bool
-    ensures { IsTrue result ↔ (head ≡ other) }
-{
-    head == other
 }

@@ -11,7 +11,7 @@ use vt_type::{VKids, VType};
 /// The root of a type at each decision. An error below a constructor makes the whole the error: it is
 /// looked for in the children only where `careful` says that there may be one.
 #[cycle(rooting)]
-pub fn diagram_of(vtype: &VType, alloc: Global, careful: bool) -> Result<Diagram, AllocError>
+pub(crate) fn diagram_of(vtype: &VType, alloc: Global, careful: bool) -> Result<Diagram, AllocError>
     ensures { IfOk result (λ tree. tree ≡ diagram careful vtype.now) }
 {
     match vtype {

@@ -13,8 +13,8 @@ use std::collections::BTreeMap;
 use vt_dec::Side;
 use vt_store::{CellId, End, Store};
 
-/// A cell that is to be looked at: for the first time, or again once the cells that its links lead to
-/// have been looked at.
+// A cell that is to be looked at: for the first time, or again once the cells that its links lead to
+// have been looked at.
 #[derive(Clone, Copy, Debug, Drop)]
 struct Visit {
     cell: CellId,
@@ -44,8 +44,8 @@ pub(crate) fn sole(
     Ok(ahead(&known, cell))
 }
 
-/// Finds where the links of a cell lead, after those cells of which this has to be known before. Until
-/// then the cell stands for itself, which ends a walk in a circle through several decisions.
+// Finds where the links of a cell lead, after those cells of which this has to be known before. Until
+// then the cell stands for itself, which ends a walk in a circle through several decisions.
 fn settle(
     store: &Store<1>,
     alloc: Global,
@@ -77,7 +77,7 @@ fn settle(
     know(known, cell, cell)
 }
 
-/// The cells are to be looked at for the first time.
+// The cells are to be looked at for the first time.
 fn put(pending: &mut Vec<Visit>, cells: &[CellId]) -> Result<(), AllocError>
     ensures { (count : ℕ) → All (λ own. own.cell < count) pending.old.items → All (λ own. own < count) cells.now → OnOk result (All (λ own. own.cell < count) pending.new.items) }
 {
@@ -90,7 +90,7 @@ fn put(pending: &mut Vec<Visit>, cells: &[CellId]) -> Result<(), AllocError>
     Ok(())
 }
 
-/// Each cell that the cell is linked to at some decision of the part, if it is a link at all of them.
+// Each cell that the cell is linked to at some decision of the part, if it is a link at all of them.
 fn linked(
     part: &Part,
     store: &Store<1>,
@@ -101,7 +101,7 @@ fn linked(
     requires space { store.now.space ≡ space.All }
     ensures { IfOk result (λ found. IfSome found (λ cells. AreLinked store.now part.now cell cells.items)) }
 {
-    let _space = store.space();
+    store.acyclic();
     match store.splits(cell, &part.context()) {
         None => match store.end(cell, &part.least()) {
             End::Link(next) => {
@@ -131,7 +131,7 @@ fn is_known(known: &BTreeMap<usize, CellId>, cell: CellId) -> bool {
     known.contains_key(&cell.0)
 }
 
-/// Where the links of a cell lead, as far as is known.
+// Where the links of a cell lead, as far as is known.
 fn ahead(known: &BTreeMap<usize, CellId>, cell: CellId) -> CellId
     ensures { result ≡ ahead_in known.now cell }
 {
@@ -145,7 +145,7 @@ fn know(known: &mut BTreeMap<usize, CellId>, cell: CellId, last: CellId) -> Resu
     Ok(())
 }
 
-/// The cell to which all of these lead, as far as is known, or else the one before them.
+// The cell to which all of these lead, as far as is known, or else the one before them.
 fn agreed(known: &BTreeMap<usize, CellId>, cell: CellId, cells: &[CellId]) -> CellId
     ensures { IsAgreed known.now cell cells.now result }
 {

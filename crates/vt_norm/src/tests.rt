@@ -2,7 +2,7 @@ ghost use Rattle.std.specs.Prelude.{◌<◌, ◌≤◌, IfOk};
 ghost use Rattle.vt_type.specs.Variational.{IsWellFormedV};
 
 use crate::compare::is_same;
-use crate::{NormalFault, equivalent, normal, normal_within};
+use crate::{OutFault, equivalent, normal, normal_within};
 use std::alloc::{AllocError, Global};
 use std::test::Fail;
 use vt_dec::Dim;
@@ -145,9 +145,9 @@ fn limit_is_kept(rt: HostRuntime) -> Result<(), Fail> {
     assert!(rt; is_same(&normal(alloc, &small)?, &small));
     assert!(rt; normal_within(alloc, &small, 4096).is_ok());
     assert!(rt; normal_within(alloc, &small, 4095).is_ok());
-    assert!(rt; matches!(normal_within(alloc, &small, 4094), Err(NormalFault::TooBig)));
+    assert!(rt; matches!(normal_within(alloc, &small, 4094), Err(OutFault::TooBig)));
     let large = pair_tree(alloc, 12)?;
-    assert!(rt; matches!(normal_within(alloc, &large, 4096), Err(NormalFault::TooBig)));
+    assert!(rt; matches!(normal_within(alloc, &large, 4096), Err(OutFault::TooBig)));
     Ok(())
 }
 

@@ -8,18 +8,9 @@ use Rattle.vt_dec.specs.Decisions.{Region, Agrees, Admits, Takes, Decides, MustT
 use Rattle.vt_dec.specs.Contexts.{least_of}
 use Rattle.vt_dec.proofs.Agreement.{Agrees-length, Agrees-decided}
 use Rattle.vt_dec.proofs.Regions.{Admits-least, MustTake-decided}
+use Rattle.vt_dec.proofs.Admitting.{Agrees-all}
 use Rattle.vt_type.specs.Variational.{by_side}
 use Rattle.vt_store.specs.Writes.{IsOf, AgreesBelow, IsWrite, IsGap, IsGapTo, IsBefore, IsNextAt}
-
--- a decision that takes each side that is decided agrees
-pub Agrees-all : (sides : List (Option Side)) (decision : List Side) → length decision ≡ length sides
-    → ((dim : ℕ) (side : Side) → slice_get sides dim ≡ Some (Some side) → slice_get decision dim ≡ Some side) → Agrees sides decision
-Agrees-all [] [] long takes = tt
-Agrees-all [] (x ∷ decision) long takes = absurd (omega arith)
-Agrees-all (own ∷ sides) [] long takes = absurd (omega arith)
-Agrees-all (None ∷ sides) (x ∷ decision) long takes = Agrees-all sides decision (omega arith) (λ dim side. takes (suc dim) side)
-Agrees-all (Some own ∷ sides) (x ∷ decision) long takes =
-    (sym (same_Some x own (takes 0 own refl)), Agrees-all sides decision (omega arith) (λ dim side. takes (suc dim) side))
 
 -- a decision has a side for each dimension
 pub side_at : (N : ℕ) (decision : List Side) (dim : ℕ) → length decision ≡ 64 * N → dim < 64 * N → (side : Side) × (slice_get decision dim ≡ Some side)

@@ -3,13 +3,13 @@ use Rattle.std.proofs.lemmas.Bool.{cases_eq}
 use Rattle.vt_dec.specs.declared.side.Side.{Side}
 use Rattle.vt_dec.specs.declared.side.Space.{Space}
 use Rattle.vt_dec.specs.Decisions.{Admits, IsIn}
+use Rattle.vt_dec.proofs.Admitting.{Admits-or, IsIn-or}
 use Rattle.vt_store.specs.Ends.{CellEnd, Free, Same, Made}
 use Rattle.vt_store.specs.Patterns.{FateMap}
 use Rattle.vt_store.specs.Stores.{Cells, cell_count, ends_at, IsBound}
 use Rattle.vt_store.specs.Writes.{IsOf}
 use Rattle.vt_unify.specs.Equations.{Equation, IsPosed}
 use Rattle.vt_unify.specs.Turns.{IsBindable}
-use Rattle.vt_unify.proofs.Admitted.{Admits-or, IsIn-or}
 use Rattle.vt_unify.proofs.Sums.{sum_all, sum_all-lt}
 use Rattle.vt_unify.proofs.Measures.{counted, counted-yes, counted-no, some-sized}
 

@@ -5,6 +5,7 @@ use Rattle.vt_dec.specs.declared.side.Side.{Side}
 use Rattle.vt_dec.specs.declared.side.Side.TheVariants.{Left, Right}
 use Rattle.vt_dec.specs.declared.fate.Fate.TheVariants.{Alive}
 use Rattle.vt_dec.specs.Decisions.{Region, Admits, Narrows}
+use Rattle.vt_dec.proofs.Admitting.{Admits-or}
 use Rattle.vt_type.specs.declared.plain.Plain.{Plain}
 use Rattle.vt_store.specs.Ends.{IsAcyclic, AreArities}
 use Rattle.vt_store.specs.Fates.{killed}
@@ -24,7 +25,6 @@ use Rattle.vt_unify.specs.Turns.{IsLifeOf, IsSplit}
 use Rattle.vt_unify.specs.Pairs.{region_of, IsKnown, equation_of}
 use Rattle.vt_unify.specs.Seen.{Remembers}
 use Rattle.vt_unify.specs.Carried.{equation_weight, HoldsBelow, IsCarried, AreCarried}
-use Rattle.vt_unify.proofs.Admitted.{Admits-or}
 use Rattle.vt_unify.proofs.Holding.{All-parts, append-none, alive_dead, halves-hold, parts-hold}
 use Rattle.vt_unify.proofs.Weights.{made-weight}
 

@@ -8,6 +8,7 @@ use Rattle.vt_store.specs.Solutions.{Solves}
 use Rattle.vt_store.specs.Stores.{Cells, cell_count, ends_at}
 use Rattle.vt_store.specs.Views.{Follows, arrived, onward}
 use Rattle.vt_store.specs.Writes.{IsOf}
+use Rattle.vt_store.proofs.Links.{Follows-then}
 use Rattle.vt_unify.specs.declared.compare.Comparison.{Comparison}
 use Rattle.vt_unify.specs.declared.compare.Comparison.TheVariants as found
 use Rattle.vt_unify.specs.declared.answers.Root.{Root}
@@ -18,10 +19,6 @@ use Rattle.vt_unify.specs.Walks.{IsRoot, IsRootOf, IsReachOf}
 use Rattle.vt_unify.specs.Comparisons.{AreNeverEqual, IsMadeOf, IsComparison}
 use Rattle.vt_unify.proofs.Admitted.{IsOf-in}
 use Rattle.vt_unify.proofs.Solving.{Follows-same, inside_differs}
-
-Follows-then : (e : ℕ → CellEnd) (cell next last : ℕ) → Follows e cell next → Follows e next last → Follows e cell last
-Follows-then e cell next last (arrived own) rest = rest
-Follows-then e cell next last (onward own step end is way) rest = onward cell step last is (Follows-then e step end last way rest)
 
 made-through : (e : ℕ → CellEnd) (cell last : ℕ) (head : Head) (kids : List ℕ) → Follows e cell last → IsMadeOf e last head kids → IsMadeOf e cell head kids
 made-through e cell last head kids way made = (made.0, Follows-then e cell last made.0 way made.1, made.2)

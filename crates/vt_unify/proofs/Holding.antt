@@ -7,6 +7,7 @@ use Rattle.vt_dec.specs.declared.fate.Fate.{Fate}
 use Rattle.vt_dec.specs.declared.fate.Fate.TheVariants.{Alive, Dead}
 use Rattle.vt_dec.specs.Decisions.{Region, Admits, Takes, Narrows}
 use Rattle.vt_dec.proofs.Agreement.{Agrees-length}
+use Rattle.vt_dec.proofs.Admitting.{Admits-or}
 use Rattle.vt_type.specs.declared.head.Head.{Head}
 use Rattle.vt_type.specs.declared.plain.Plain.{Plain}
 use Rattle.vt_type.specs.Plain.{arity}
@@ -20,7 +21,7 @@ use Rattle.vt_store.proofs.Writing.{side_at}
 use Rattle.vt_unify.specs.Comparisons.{AreNeverEqual, IsMadeOf, IsSameMade}
 use Rattle.vt_unify.specs.Equations.{Equation, HoldsAt, HoldAt, IsPosed, IsInside, equation_in, equations_of, Replaces, nothing, halves, parts}
 use Rattle.vt_unify.specs.Turns.{Turns, TurnsAll, left_at}
-use Rattle.vt_unify.proofs.Admitted.{Admits-or, IsOf-in}
+use Rattle.vt_unify.proofs.Admitted.{IsOf-in}
 use Rattle.vt_unify.proofs.Solving.{named_inside, Follows-within, same_made}
 
 pub All-parts : {X : Type 0} (P : X → Type 0) (xs ys : List X) → All P (xs ++ ys) → All P xs × All P ys

@@ -5,12 +5,13 @@ use Rattle.vt_dec.specs.declared.side.Side.{Side}
 use Rattle.vt_dec.specs.declared.side.Side.TheVariants.{Left, Right}
 use Rattle.vt_dec.specs.Decisions.{Region, Admits, Narrows}
 use Rattle.vt_dec.proofs.Agreement.{Agrees-length}
+use Rattle.vt_dec.proofs.Admitting.{Admits-or}
 use Rattle.vt_store.specs.Ends.{IsAcyclic}
 use Rattle.vt_store.specs.Stores.{Cells, cell_count, ends_at}
 use Rattle.vt_store.specs.Writes.{IsOf}
 use Rattle.vt_unify.specs.Comparisons.{IsSameMade}
 use Rattle.vt_unify.specs.Equations.{Equation, IsPosed, equation_in, equations_of, Replaces, nothing, halves, parts}
-use Rattle.vt_unify.proofs.Admitted.{Admits-or, IsOf-in}
+use Rattle.vt_unify.proofs.Admitted.{IsOf-in}
 use Rattle.vt_unify.proofs.Sums.{sum_all, sum_all-add, sum_all-le, sum_all-lt, sum_all-same}
 use Rattle.vt_unify.specs.Weights.{weight, weights}
 use Rattle.vt_unify.proofs.Weights.{weight-positive, made-weight}

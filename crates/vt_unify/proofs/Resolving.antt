@@ -129,6 +129,3 @@ module _ (whole : Region) (narrowed : List Region) (before pairs : List Pair) (l
 pub grows_twice : (narrowed later last : List Region) (one other : Region) → later ≡ narrowed ++ one ∷ [] → last ≡ later ++ other ∷ [] → IsMore narrowed last
 grows_twice narrowed later last one other kept kept_too =
     (one ∷ other ∷ [], kept_too ∙ ap (λ own. own ++ other ∷ []) kept ∙ append_assoc narrowed (one ∷ []) (other ∷ []))
-
-pub stays_same : (narrowed later : List Region) → later ≡ narrowed → IsMore narrowed later
-stays_same narrowed later kept = ([], kept ∙ sym (append-none narrowed))

@@ -10,7 +10,7 @@ use Rattle.vt_type.specs.Plain.{kids_of, plain_nodes, kids_nodes}
 use Rattle.vt_store.specs.Ends.{CellEnd, Free, Same, Made, EachCell, EndsWithin, IsAcyclic, NamesCell, Reaches, itself, through}
 use Rattle.vt_store.specs.Solutions.{plain_kids, Fits, Solves}
 use Rattle.vt_store.specs.Views.{Follows, arrived, onward}
-use Rattle.vt_store.proofs.Cells.{EachCell-each, EndsWithin-within}
+use Rattle.vt_store.proofs.Cells.{EachCell-each, EachCell-at, EndsWithin-within, IsAcyclic-named}
 use Rattle.vt_unify.specs.Walks.{IsNoLink}
 use Rattle.vt_unify.specs.Comparisons.{IsMadeOf, IsSameMade}
 
@@ -48,19 +48,10 @@ kid-nodes s (kid ∷ kids) =
 
 -- ---- one of the cells that are named
 
-pub EachCell-at : (P : ℕ → Type 0) (end : CellEnd) (cell : ℕ) → EachCell P end → NamesCell end cell → P cell
-EachCell-at P Free cell each names = absurd names
-EachCell-at P (Same own) cell each names = subst P names each
-EachCell-at P (Made head kids) cell each names = All-contains P kids cell each names
-
 module _ (n : ℕ) (e : ℕ → CellEnd) (acyclic : IsAcyclic n e) where
-  named_down : (most cell : ℕ) → EndsWithin n e most cell → EachCell (λ next. next < n) (e cell)
-  named_down zero cell h = absurd h
-  named_down (suc most) cell h = EachCell-each (EndsWithin n e most) (λ next. next < n) (e cell) (EndsWithin-within n e most) h.1
-
   -- an end of a cell names cells
   pub named_inside : (cell : ℕ) → cell < n → EachCell (λ next. next < n) (e cell)
-  named_inside cell within = named_down n cell (acyclic cell within)
+  named_inside = IsAcyclic-named n e acyclic
 
   pub named_within : (cell next : ℕ) → cell < n → NamesCell (e cell) next → next < n
   named_within cell next within names = EachCell-at (λ own. own < n) (e cell) next (named_inside cell within) names
@@ -126,10 +117,6 @@ module _ (n : ℕ) (e : ℕ → CellEnd) (acyclic : IsAcyclic n e) where
           (λ same. same_kids made.0 made.0 (map s lefts) (map s rights) (sym one ∙ same ∙ other)),
           (λ same. one ∙ ap (λ types. Con made.0 (plain_kids types)) same ∙ sym other),
         )
-
-    pub other_heads : (left right : ℕ) (one other : Head) (lefts rights : List ℕ) → left < n → right < n → IsMadeOf e left one lefts → IsMadeOf e right other rights → (one ≡ other → ⊥) → s left ≡ s right → ⊥
-    other_heads left right one other lefts rights inside within made own differ same =
-        differ (same_head one other (plain_kids (map s lefts)) (plain_kids (map s rights)) (sym (made_at left one lefts inside made) ∙ same ∙ made_at right other rights within own))
 
 -- ---- an open cell that is bound
 

@@ -5,6 +5,7 @@ use Rattle.std.proofs.lemmas.List.Elements.{All-nil, All-cons, All-head, All-app
 use Rattle.vt_dec.specs.declared.side.Side.{Side}
 use Rattle.vt_dec.specs.declared.fate.Fate.TheVariants.{Alive, Dead}
 use Rattle.vt_dec.specs.Decisions.{Region, Admits}
+use Rattle.vt_dec.proofs.Admitting.{Admits-or}
 use Rattle.vt_type.specs.declared.plain.Plain.{Plain}
 use Rattle.vt_store.specs.Ends.{CellEnd, IsAcyclic, AreArities}
 use Rattle.vt_store.specs.Laws.{HaveMostGeneral}
@@ -12,10 +13,11 @@ use Rattle.vt_store.specs.Patterns.{FateMap, fate_at}
 use Rattle.vt_store.specs.Solutions.{Solves}
 use Rattle.vt_store.specs.Stores.{Cells, cell_count, ends_at, IsBound}
 use Rattle.vt_store.specs.Writes.{IsOf}
+use Rattle.vt_store.proofs.Solutions.{HaveSolutions}
 use Rattle.vt_unify.specs.Equations.{Equation, HoldsAt, IsPosed, IsInside}
 use Rattle.vt_unify.specs.Turns.{Turns, left_at, IsBindable, IsWorked}
 use Rattle.vt_unify.specs.Unified.{AreEqualSolutions, IsEither, IsUnified}
-use Rattle.vt_unify.proofs.Admitted.{Admits-or, IsOf-in}
+use Rattle.vt_unify.proofs.Admitted.{IsOf-in}
 use Rattle.vt_unify.proofs.Solving.{bound_solves}
 use Rattle.vt_unify.proofs.Holding.{All-parts, Turns-then, alive_dead}
 use Rattle.vt_unify.proofs.Binding.{unbound}
@@ -39,16 +41,6 @@ same_solutions : (n : ℕ) (e later : ℕ → CellEnd) → ((cell : ℕ) → lat
 same_solutions n e later same s =
     let path : later ≡ e = λ i cell. same cell i in
     ((λ h. subst (λ ends. Solves n ends s) path h), (λ h. subst (λ ends. Solves n ends s) (sym path) h))
-
--- at each decision there is a solution
-abbrev pub HaveSolutions : ℕ → Cells → Type 0
-HaveSolutions N store = (d : List Side) → IsOf N store.space d → (s : ℕ → Plain) × Solves (cell_count store) (ends_at store d) s
-
-pub have_solutions : (N : ℕ) (store : Cells) → HaveMostGeneral
-    → ((d : List Side) → IsOf N store.space d → IsAcyclic (cell_count store) (ends_at store d)) → ((d : List Side) → IsOf N store.space d → AreArities (cell_count store) (ends_at store d)) → HaveSolutions N store
-have_solutions N store law acyclic arities d of =
-    let found = law (cell_count store) (ends_at store d) (acyclic d of) (arities d of) in
-    (found.0, found.1)
 
 module _ (N node : ℕ) (region : Region) (x y : ℕ) (old : Cells) (before : FateMap) where
   -- at first the one equation

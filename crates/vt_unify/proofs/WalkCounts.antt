@@ -7,6 +7,8 @@ use Rattle.vt_dec.specs.declared.side.Side.TheVariants.{Left, Right}
 use Rattle.vt_dec.specs.declared.side.Space.{Space}
 use Rattle.vt_dec.specs.declared.side.Space.TheVariants.{All as AllOf, AtMost}
 use Rattle.vt_dec.specs.Decisions.{Region, Agrees, Admits, IsIn, Takes, rights, Narrows}
+use Rattle.vt_dec.proofs.Admitting.{Admits-or}
+use Rattle.vt_store.proofs.Branching.{both_sides}
 
 -- How many decisions a context admits: what falls each time that a context is split.
 
@@ -29,60 +31,25 @@ total-positive (suc n) f [] long some = absurd (omega arith)
 total-positive (suc n) f (Left ∷ d) long some = omega (arith, total-positive n (λ rest. f (Left ∷ rest)) d (omega arith) some)
 total-positive (suc n) f (Right ∷ d) long some = omega (arith, total-positive n (λ rest. f (Right ∷ rest)) d (omega arith) some)
 
--- ---- whether a context admits a decision
-
-abbrev Decided : Type 0 → Type 0
-Decided P = P ⊎ (P → ⊥)
-
-same_side : (one other : Side) → Decided (one ≡ other)
-same_side Left Left = inl refl
-same_side Left Right = inr (λ h. cc)
-same_side Right Left = inr (λ h. cc)
-same_side Right Right = inl refl
-
-agrees : (decided : List (Option Side)) (d : List Side) → Decided (Agrees decided d)
-agrees [] [] = inl tt
-agrees [] (side ∷ d) = inr (λ h. h)
-agrees (own ∷ decided) [] = inr (λ h. h)
-agrees (None ∷ decided) (side ∷ d) = agrees decided d
-agrees (Some own ∷ decided) (side ∷ d) = by (same_side own side) (agrees decided d)
-  where
-    by : Decided (own ≡ side) → Decided (Agrees decided d) → Decided ((own ≡ side) × Agrees decided d)
-    by (inl same) (inl rest) = inl (same, rest)
-    by (inl same) (inr never) = inr (λ h. never h.1)
-    by (inr never) rest = inr (λ h. never h.0)
-
-in_space : (space : Space) (d : List Side) → Decided (IsIn space d)
-in_space AllOf d = inl tt
-in_space (AtMost k) d = elim (cases_lt k (rights d)) as (λ _. Decided (rights d ≤ k)) [ inl more ↦ inr (λ h. omega arith) | inr few ↦ inl few ]
-
-pub admits : (region : Region) (d : List Side) → Decided (Admits region d)
-admits region d = by (agrees region.sides d) (in_space region.space d)
-  where
-    by : Decided (Agrees region.sides d) → Decided (IsIn region.space d) → Decided (Admits region d)
-    by (inl same) (inl inside) = inl (record { agrees = same; in_space = inside })
-    by (inl same) (inr outside) = inr (λ h. outside h.in_space)
-    by (inr never) inside = inr (λ h. never h.agrees)
-
 -- ---- how many it admits
 
-abbrev one_if : {P : Type 0} → Decided P → ℕ
+abbrev one_if : {P : Type 0} → P ⊎ (P → ⊥) → ℕ
 one_if (inl p) = 1
 one_if (inr p) = 0
 
-one_if-yes : {P : Type 0} (d : Decided P) → P → one_if d ≡ 1
+one_if-yes : {P : Type 0} (d : P ⊎ (P → ⊥)) → P → one_if d ≡ 1
 one_if-yes (inl p) h = refl
 one_if-yes (inr never) h = absurd (never h)
 
-one_if-no : {P : Type 0} (d : Decided P) → (P → ⊥) → one_if d ≡ 0
+one_if-no : {P : Type 0} (d : P ⊎ (P → ⊥)) → (P → ⊥) → one_if d ≡ 0
 one_if-no (inl p) h = absurd (h p)
 one_if-no (inr never) h = refl
 
 abbrev pub admitted : ℕ → Region → ℕ
-admitted n region = total n (λ d. one_if (admits region d))
+admitted n region = total n (λ d. one_if (Admits-or region d))
 
 pub admitted-positive : (n : ℕ) (region : Region) (d : List Side) → length d ≡ n → Admits region d → 0 < admitted n region
-admitted-positive n region d long h = total-positive n (λ own. one_if (admits region own)) d long (omega (arith, one_if-yes (admits region d) h))
+admitted-positive n region d long h = total-positive n (λ own. one_if (Admits-or region own)) d long (omega (arith, one_if-yes (Admits-or region d) h))
 
 -- a decision takes one of the two sides
 pub either_side : (d : List Side) (dim : ℕ) → dim < length d → Takes d dim Left ⊎ Takes d dim Right
@@ -91,24 +58,21 @@ either_side (Left ∷ d) zero within = inl refl
 either_side (Right ∷ d) zero within = inr refl
 either_side (side ∷ d) (suc dim) within = either_side d dim (omega arith)
 
-pub one_side : (d : List Side) (dim : ℕ) → Takes d dim Left → Takes d dim Right → ⊥
-one_side d dim left right = let e = sym left ∙ right in cc
-
 -- the two halves of a context admit together as many
 module _ (n dim : ℕ) (region left right : Region) (low : dim < n) (to_left : Narrows region dim Left left) (to_right : Narrows region dim Right right) where
-  halves-at : (d : List Side) → length d ≡ n → one_if (admits left d) + one_if (admits right d) ≡ one_if (admits region d)
-  halves-at d long = by (admits region d) (either_side d dim (omega arith))
+  halves-at : (d : List Side) → length d ≡ n → one_if (Admits-or left d) + one_if (Admits-or right d) ≡ one_if (Admits-or region d)
+  halves-at d long = by (Admits-or region d) (either_side d dim (omega arith))
     where
-      by : (whole : Decided (Admits region d)) → Takes d dim Left ⊎ Takes d dim Right → one_if (admits left d) + one_if (admits right d) ≡ one_if whole
+      by : (whole : Admits region d ⊎ (Admits region d → ⊥)) → Takes d dim Left ⊎ Takes d dim Right → one_if (Admits-or left d) + one_if (Admits-or right d) ≡ one_if whole
       by (inl has) (inl takes) =
-          omega (arith, one_if-yes (admits left d) ((to_left.exactly d).1 (has, takes)), one_if-no (admits right d) (λ h. one_side d dim takes ((to_right.exactly d).0 h).1))
+          omega (arith, one_if-yes (Admits-or left d) ((to_left.exactly d).1 (has, takes)), one_if-no (Admits-or right d) (λ h. both_sides d dim takes ((to_right.exactly d).0 h).1))
       by (inl has) (inr takes) =
-          omega (arith, one_if-no (admits left d) (λ h. one_side d dim ((to_left.exactly d).0 h).1 takes), one_if-yes (admits right d) ((to_right.exactly d).1 (has, takes)))
+          omega (arith, one_if-no (Admits-or left d) (λ h. both_sides d dim ((to_left.exactly d).0 h).1 takes), one_if-yes (Admits-or right d) ((to_right.exactly d).1 (has, takes)))
       by (inr never) takes =
-          omega (arith, one_if-no (admits left d) (λ h. never ((to_left.exactly d).0 h).0), one_if-no (admits right d) (λ h. never ((to_right.exactly d).0 h).0))
+          omega (arith, one_if-no (Admits-or left d) (λ h. never ((to_left.exactly d).0 h).0), one_if-no (Admits-or right d) (λ h. never ((to_right.exactly d).0 h).0))
 
   pub admitted-halves : admitted n left + admitted n right ≡ admitted n region
-  admitted-halves = total-both n (λ d. one_if (admits left d)) (λ d. one_if (admits right d)) (λ d. one_if (admits region d)) halves-at
+  admitted-halves = total-both n (λ d. one_if (Admits-or left d)) (λ d. one_if (Admits-or right d)) (λ d. one_if (Admits-or region d)) halves-at
 
 -- ---- the work that is left where parts of a context are split or done
 

@@ -9,7 +9,7 @@ use Rattle.vt_store.specs.Stores.{Cells, ends_at}
 use Rattle.vt_store.specs.Writes.{IsOf}
 use Rattle.vt_unify.specs.Samplings.{AreSamples}
 use Rattle.vt_unify.specs.Walks.{AreNamed, AreLinked, cells_of}
-use Rattle.vt_unify.proofs.WalkSamples.{IsOf-admitted}
+use Rattle.vt_unify.proofs.Admitted.{IsOf-in}
 
 -- What the samples name is what is named.
 
@@ -129,4 +129,4 @@ module _ (store : Cells) (region : Region) (cell : ℕ) (found : List (List Side
 
   -- each sample is a decision of the context's space
   pub IsOf-sample : (N : ℕ) (k : ℕ) (sample : List Side) → length region.sides ≡ 64 * N → region.space ≡ store.space → k < length samples → sample ≡ get_or samples k sample → IsOf N store.space sample
-  IsOf-sample N k sample sized alike within is = IsOf-admitted N region store.space sample sized alike (subst (Admits region) (sym is) (sampled.admitted k sample within))
+  IsOf-sample N k sample sized alike within is = IsOf-in N store.space region sample sized alike (subst (Admits region) (sym is) (sampled.admitted k sample within))

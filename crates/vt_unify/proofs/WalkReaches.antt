@@ -7,25 +7,19 @@ use Rattle.vt_dec.specs.Decisions.{Region, Admits}
 use Rattle.vt_store.specs.Ends.{CellEnd, Free, Same, Made, EachCell, EndsWithin, IsAcyclic, NamesCell, Reaches, itself, through}
 use Rattle.vt_store.specs.Stores.{Cells, ends_at, cell_count, IsOneEnd}
 use Rattle.vt_store.specs.Writes.{IsOf}
+use Rattle.vt_store.proofs.Cells.{EachCell-at, EndsWithin-named}
 use Rattle.vt_unify.specs.CellSets.{IsFew}
 use Rattle.vt_unify.specs.Searches.{Grows, visit}
 use Rattle.vt_unify.specs.Walks.{CanSplit, AreNamed, IsReachOf, reach_by}
 use Rattle.vt_unify.specs.declared.search.Search.{Search}
 use Rattle.vt_unify.specs.declared.search.Visit.{Visit}
-use Rattle.vt_unify.proofs.WalkSamples.{IsOf-admitted}
+use Rattle.vt_unify.proofs.Admitted.{IsOf-in}
 
 -- The search from one cell down to another.
 
-pub EachCell-named : (P : ℕ → Type 0) (end : CellEnd) (cell : ℕ) → EachCell P end → NamesCell end cell → P cell
-EachCell-named P Free cell h names = absurd names
-EachCell-named P (Same own) cell h names = subst P names h
-EachCell-named P (Made head kids) cell h names = All-contains P kids cell h names
-
 -- what a cell names is a cell
 pub named-within : (n : ℕ) (e : ℕ → CellEnd) (most cell next : ℕ) → EndsWithin n e most cell → NamesCell (e cell) next → next < n
-named-within n e zero cell next h names = absurd h
-named-within n e (suc zero) cell next h names = absurd (EachCell-named (EndsWithin n e zero) (e cell) next h.1 names)
-named-within n e (suc (suc most)) cell next h names = (EachCell-named (EndsWithin n e (suc most)) (e cell) next h.1 names).0
+named-within n e most cell next h names = EachCell-at (λ own. own < n) (e cell) next (EndsWithin-named n e most cell h) names
 
 pub Reaches-more : (e : ℕ → CellEnd) (outer cell next : ℕ) → Reaches e outer cell → NamesCell (e cell) next → Reaches e outer next
 Reaches-more e outer cell next (itself own) names = through outer next next names (itself next)
@@ -104,7 +98,7 @@ module _ (N : ℕ) (store : Cells) (region : Region) (outer inner : ℕ) where
       next-within : (next : ℕ) → Contains named next → next < cell_count store
       next-within next among =
           let origin = (are_named next).0 among in
-          named-within (cell_count store) (ends_at store origin.0) (cell_count store) cell next (acyclic origin.0 (IsOf-admitted N region store.space origin.0 sized space origin.1) cell here.0) origin.2
+          named-within (cell_count store) (ends_at store origin.0) (cell_count store) cell next (acyclic origin.0 (IsOf-in N store.space region origin.0 sized space origin.1) cell here.0) origin.2
 
       next-way : (next : ℕ) → Contains named next → IsWay N store region outer next next_split
       next-way next among = subst (IsWay N store region outer next) (sym next_is) (by split found here.1 both alike)

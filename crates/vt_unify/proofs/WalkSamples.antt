@@ -5,24 +5,13 @@ use Rattle.vt_dec.specs.declared.side.Side.{Side}
 use Rattle.vt_dec.specs.declared.side.Side.TheVariants.{Left, Right}
 use Rattle.vt_dec.specs.declared.side.Space.{Space}
 use Rattle.vt_dec.specs.Decisions.{Region, Agrees, Admits, Takes, Narrows}
+use Rattle.vt_dec.proofs.Agreement.{Agrees-length}
 use Rattle.vt_store.specs.Stores.{Cells, ends_at, IsOneEnd}
 use Rattle.vt_store.specs.Writes.{IsOf}
 use Rattle.vt_unify.specs.Samplings.{AreSamples, IsTurn}
 use Rattle.vt_unify.proofs.WalkCounts.{either_side, admitted-positive, admitted-halves, work, work-done, work-split}
 
 -- Parts of a context that are still to be looked at, and the decisions that are found.
-
-pub Agrees-length : (decided : List (Option Side)) (d : List Side) → Agrees decided d → length d ≡ length decided
-Agrees-length [] [] agrees = refl
-Agrees-length [] (side ∷ d) agrees = absurd agrees
-Agrees-length (own ∷ decided) [] agrees = absurd agrees
-Agrees-length (None ∷ decided) (side ∷ d) agrees = omega (arith, Agrees-length decided d agrees)
-Agrees-length (Some own ∷ decided) (side ∷ d) agrees = omega (arith, Agrees-length decided d agrees.1)
-
--- what a context admits is a decision of its space
-pub IsOf-admitted : (N : ℕ) (region : Region) (space : Space) (d : List Side) → length region.sides ≡ 64 * N → region.space ≡ space → Admits region d → IsOf N space d
-IsOf-admitted N region space d long same h =
-    subst (λ own. IsOf N own d) same (record { sized = Agrees-length region.sides d h.agrees ∙ long; inside = h.in_space })
 
 pub record IsPart (region part : Region) : Type 0 where
   pub space : part.space ≡ region.space
@@ -35,21 +24,6 @@ pub record Sampling (store : Cells) (region : Region) (cell : ℕ) (parts : List
       → ((sample : List Side) × Contains found sample × (ends_at store sample cell ≡ ends_at store d cell)) ⊎ ((part : Region) × Contains parts part × Admits part d)
 
 module _ (store : Cells) (region : Region) (cell : ℕ) where
-  pub Sampling-none : (parts : List Region) → parts ≡ region ∷ [] → Sampling store region cell parts []
-  Sampling-none parts is = subst (λ own. Sampling store region cell own []) (sym is) (record {
-    each = All-push (IsPart region) [] region (All-nil (IsPart region)) (record { space = refl; inside = λ d h. h });
-    admitted = All-nil (Admits region);
-    every = λ d h. inr (region, Contains-push [] region, h);
-  })
-
-  pub Sampling-all : (found : List (List Side)) → Sampling store region cell [] found → AreSamples store region cell found
-  Sampling-all found h = record { admitted = h.admitted; every = λ d admits. by d (h.every d admits) }
-    where
-      by : (d : List Side) → ((sample : List Side) × Contains found sample × (ends_at store sample cell ≡ ends_at store d cell)) ⊎ ((part : Region) × Contains [] part × Admits part d)
-          → (sample : List Side) × Contains found sample × (ends_at store sample cell ≡ ends_at store d cell)
-      by d (inl known) = known
-      by d (inr way) = absurd (omega (arith, way.1.1))
-
   module _ (parts : List Region) (part : Region) (found : List (List Side)) (now : Sampling store region cell (parts ++ part ∷ []) found) where
     pub here : IsPart region part
     here = All-contains (IsPart region) (parts ++ part ∷ []) part now.each (Contains-push parts part)

@@ -15,7 +15,7 @@ use Rattle.vt_store.specs.Writes.{IsOf}
 use Rattle.vt_unify.specs.Soles.{ahead_in, AreSoles, IsAgreed}
 use Rattle.vt_unify.specs.Walks.{LeadsTo, AreLinked}
 use Rattle.vt_unify.proofs.WalkReaches.{named-within}
-use Rattle.vt_unify.proofs.WalkSamples.{IsOf-admitted}
+use Rattle.vt_unify.proofs.Admitted.{IsOf-in}
 use Rattle.vt_unify.proofs.WalkSets.{apart}
 
 -- Each entry of the table is true alone.
@@ -44,5 +44,5 @@ pub All-linked : (N : ℕ) (store : Cells) (region : Region) → length region.s
 All-linked N store region sized space acyclic cell next within linked k d low =
     let own = get_or next k d in
     let link = linked.only own (Contains-get_or next k d low) in
-    let admitted = IsOf-admitted N region store.space link.0 sized space link.1 in
+    let admitted = IsOf-in N store.space region link.0 sized space link.1 in
     named-within (cell_count store) (ends_at store link.0) (cell_count store) cell own (acyclic link.0 admitted cell within) (subst (λ end. NamesCell end own) (sym link.2) refl)

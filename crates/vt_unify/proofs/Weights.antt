@@ -3,7 +3,7 @@ use Rattle.std.specs.List.{All}
 use Rattle.vt_type.specs.declared.head.Head.{Head}
 use Rattle.vt_store.specs.Ends.{CellEnd, Free, Same, Made, EachCell, EndsWithin, IsAcyclic}
 use Rattle.vt_store.specs.Views.{Follows, arrived, onward}
-use Rattle.vt_store.proofs.Cells.{All-head, All-tail, All-both, EndsWithin-within}
+use Rattle.vt_store.proofs.Cells.{All-head, All-tail, EachCell-both, EndsWithin-within}
 use Rattle.vt_unify.specs.Weights.{weights, weight_of, weight}
 use Rattle.vt_unify.specs.Comparisons.{IsMadeOf}
 use Rattle.vt_unify.proofs.Solving.{linked_within, Follows-within}
@@ -28,11 +28,6 @@ weight_of-same : (one other : ℕ → ℕ) (P : ℕ → Type 0) (end : CellEnd) 
 weight_of-same one other P Free same h = refl
 weight_of-same one other P (Same cell) same h = ap suc (same cell h)
 weight_of-same one other P (Made head kids) same h = ap suc (weights-same one other P kids same h)
-
-EachCell-both : (P Q : ℕ → Type 0) (end : CellEnd) → EachCell P end → EachCell Q end → EachCell (λ cell. P cell × Q cell) end
-EachCell-both P Q Free p q = tt
-EachCell-both P Q (Same cell) p q = (p, q)
-EachCell-both P Q (Made head kids) p q = All-both P Q kids p q
 
 -- the weight does not depend on how far down it goes, where all ends are reached
 weight-any : (n : ℕ) (e : ℕ → CellEnd) (one other cell : ℕ) → EndsWithin n e one cell → EndsWithin n e other cell → weight e one cell ≡ weight e other cell

@@ -39,7 +39,7 @@ pub(crate) fn compare<'a, const N: usize>(
     requires space { within.now.space ≡ store.now.space }
     ensures { IfOk result (IsComparison N store.now within.now left right) }
 {
-    let _space = store.space();
+    store.acyclic();
     let _sized = within.space();
     let one = match root(store, within, left)? {
         Root::Split(dim) => return Ok(Comparison::Split(dim)),
@@ -55,7 +55,7 @@ pub(crate) fn compare<'a, const N: usize>(
     compare_roots(store, within, one, other)
 }
 
-/// `compare` at two cells that are their own roots.
+// `compare` at two cells that are their own roots.
 fn compare_roots<'a, const N: usize>(
     store: &'a Store<N>,
     within: &Context<N>,
@@ -88,7 +88,7 @@ fn compare_roots<'a, const N: usize>(
     }
 }
 
-/// The head and the cells under it, if a cell that is no link is bound.
+// The head and the cells under it, if a cell that is no link is bound.
 fn made<'a, const N: usize>(
     store: &'a Store<N>,
     within: &Context<N>,
@@ -107,7 +107,7 @@ fn made<'a, const N: usize>(
     }
 }
 
-/// `compare` at an open cell and another one that is no link.
+// `compare` at an open cell and another one that is no link.
 fn compare_open<'a, const N: usize>(
     store: &Store<N>,
     within: &Context<N>,
@@ -122,7 +122,7 @@ fn compare_open<'a, const N: usize>(
     ensures found { IfOk result (IsComparison N store.now within.now cell other) }
     ensures turned_round { IfOk result (IsComparison N store.now within.now other cell) }
 {
-    let _space = store.space();
+    store.acyclic();
     let _sized = within.space();
     match reaches(store, within, other, cell)? {
         Reach::Split(dim) => Ok(Comparison::Split(dim)),

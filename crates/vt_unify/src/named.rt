@@ -28,7 +28,7 @@ pub(crate) fn named<const N: usize>(
     Ok(cells)
 }
 
-/// Adds the cells that an end names.
+// Adds the cells that an end names.
 fn push_cells(cells: &mut Vec<CellId>, end: End<'_>) -> Result<(), AllocError>
     ensures { OnOk result (cells.new.items ≡ cells.old.items ++ cells_of (seen end.entry)) }
 {

@@ -32,7 +32,7 @@ pub(crate) fn next_binding<const N: usize>(
     ensures known { IfOk result (λ found. AreKnown pairs.new × IfSome found (IsKnown pairs.new.narrowed.items)) }
     ensures worked { IfOk result (λ found. IsWorked N node store.now pattern.old pattern.new (equations_in whole.now pairs.old) (equations_in whole.now pairs.new) (option_map (equation_of whole.now pairs.new.narrowed.items) found)) }
 {
-    let _space = store.space();
+    store.acyclic();
     let mut seen = Seen::new(store.allocator());
     while let Some(pair) = pairs.pop() {
         let found = turn(store, pattern, whole, pairs, &pair, &mut seen, node)?;
@@ -43,7 +43,7 @@ pub(crate) fn next_binding<const N: usize>(
     Ok(None)
 }
 
-/// One pair that was taken off the list. One that was taken apart before is not again.
+// One pair that was taken off the list. One that was taken apart before is not again.
 fn turn<const N: usize>(
     store: &Store<N>,
     pattern: &mut Pattern<N>,
@@ -72,7 +72,7 @@ fn turn<const N: usize>(
     }
 }
 
-/// `turn` where all decisions of the pair are alive.
+// `turn` where all decisions of the pair are alive.
 fn turn_alive<const N: usize>(
     store: &Store<N>,
     pattern: &mut Pattern<N>,
@@ -92,7 +92,7 @@ fn turn_alive<const N: usize>(
     ensures turn { IfOk result (λ found. IsTurn N node store.now pattern.old pattern.new (equation_of whole.now pairs.old.narrowed.items pair.now) (equations_in whole.now pairs.old) (equations_in whole.now pairs.new) (option_map (equation_of whole.now pairs.new.narrowed.items) found)) }
     ensures carried { IfOk result (λ found. found ≡ None → AreCarried N store.now pattern.new whole.now pairs.new.narrowed.items (equations_in whole.now pairs.new) seen.new) }
 {
-    let _space = store.space();
+    store.acyclic();
     let within = pairs.context(whole, pair);
     let found = match compare(store, within, pair.left, pair.right) {
         Ok(found) => found,

@@ -23,8 +23,8 @@ pub(crate) fn reaches<const N: usize>(
     requires space { within.now.space ≡ store.now.space }
     ensures { IfOk result (IsReachOf N store.now within.now outer inner) }
 {
-    // What they ensure is what the search rests on.
-    let _space = store.space();
+    // What the search rests on.
+    store.acyclic();
     let _sized = within.space();
     let mut search = Search::new(store.allocator());
     search.see(&[outer], &None)?;
@@ -39,7 +39,7 @@ pub(crate) fn reaches<const N: usize>(
     Ok(Reach::Never)
 }
 
-/// What a way shows that differs by the dimension or by none.
+// What a way shows that differs by the dimension or by none.
 fn reached(split: Option<Dim>) -> Reach
     ensures { result ≡ reach_by split }
 {

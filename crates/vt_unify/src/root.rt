@@ -20,7 +20,7 @@ pub(crate) fn root<const N: usize>(
     requires space { within.now.space ≡ store.now.space }
     ensures { IfOk result (IsRootOf N store.now within.now cell) }
 {
-    let _space = store.space();
+    store.acyclic();
     let _sized = within.space();
     let least = within.least();
     let mut last = cell;

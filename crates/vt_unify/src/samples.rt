@@ -7,7 +7,7 @@ use std::alloc::AllocError;
 use vt_dec::{Context, Decision, Side};
 use vt_store::{CellId, Store};
 
-/// How many parts of a context are looked at where a short answer is wanted.
+// How many parts of a context are looked at where a short answer is wanted.
 const FEW: usize = 16;
 
 /// One decision for each part of the context in which the cell's own diagram does not split. Only the
@@ -54,7 +54,7 @@ pub(crate) fn few_samples<const N: usize>(
     Ok(None)
 }
 
-/// Looks at a part: its least decision is found, or its halves are parts to be looked at.
+// Looks at a part: its least decision is found, or its halves are parts to be looked at.
 fn turn<const N: usize>(
     store: &Store<N>,
     cell: CellId,

@@ -13,8 +13,8 @@ use std::collections::BTreeMap;
 use vt_dec::Context;
 use vt_store::{CellId, Store};
 
-/// A cell that is to be looked at: for the first time, or again once the cells that its links lead to
-/// have been looked at.
+// A cell that is to be looked at: for the first time, or again once the cells that its links lead to
+// have been looked at.
 #[derive(Clone, Copy, Debug, Drop)]
 struct Visit {
     cell: CellId,
@@ -43,8 +43,8 @@ pub(crate) fn sole<const N: usize>(
     Ok(ahead(&known, cell))
 }
 
-/// Finds where the links of a cell lead, after those cells of which this has to be known before. Until
-/// then the cell stands for itself, which ends a walk in a circle through several decisions.
+// Finds where the links of a cell lead, after those cells of which this has to be known before. Until
+// then the cell stands for itself, which ends a walk in a circle through several decisions.
 fn settle<const N: usize>(
     store: &Store<N>,
     within: &Context<N>,
@@ -59,8 +59,8 @@ fn settle<const N: usize>(
     ensures known { OnOk result (AreSoles store.now within.now known.new) }
     ensures pending { OnOk result (All (λ own. own.cell < cell_count store.now) pending.new.items) }
 {
-    // What they ensure is that the next cells are cells.
-    let _space = store.space();
+    // The next cells are cells.
+    store.acyclic();
     let _sized = within.space();
     let cell = next.cell;
     if !next.again && is_known(known, cell) {
@@ -78,7 +78,7 @@ fn settle<const N: usize>(
     know(known, cell, cell)
 }
 
-/// The cells are to be looked at for the first time.
+// The cells are to be looked at for the first time.
 fn put(pending: &mut Vec<Visit>, cells: &[CellId]) -> Result<(), AllocError>
     ensures { (count : ℕ) → All (λ own. own.cell < count) pending.old.items → All (λ own. own < count) cells.now → OnOk result (All (λ own. own.cell < count) pending.new.items) }
 {
@@ -97,7 +97,7 @@ fn is_known(known: &BTreeMap<usize, CellId>, cell: CellId) -> bool
     known.contains_key(&cell.0)
 }
 
-/// Where the links of a cell lead, as far as is known.
+// Where the links of a cell lead, as far as is known.
 fn ahead(known: &BTreeMap<usize, CellId>, cell: CellId) -> CellId
     ensures { result ≡ ahead_in known.now cell }
 {
@@ -111,7 +111,7 @@ fn know(known: &mut BTreeMap<usize, CellId>, cell: CellId, last: CellId) -> Resu
     Ok(())
 }
 
-/// The cell to which all of these lead, as far as is known, or else the one before them.
+// The cell to which all of these lead, as far as is known, or else the one before them.
 fn agreed(known: &BTreeMap<usize, CellId>, cell: CellId, next: &[CellId]) -> CellId
     ensures { IsAgreed known.now cell next.now result }
 {

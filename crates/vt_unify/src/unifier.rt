@@ -28,7 +28,7 @@ pub fn unify<const N: usize>(
     ensures ok { OnOk result (IsUnified N within.now x y node store.old store.new pattern.old pattern.new) }
 {
     most_general_solution();
-    let _space = store.space();
+    store.acyclic();
     let _sized = within.space();
     let mut pairs = Pairs::new(store.allocator());
     pairs.push(&Pair {
@@ -39,6 +39,6 @@ pub fn unify<const N: usize>(
     while let Some(pair) = next_binding(store, pattern, within, &mut pairs, node)? {
         store.bind(pair.left, pairs.context(within, &pair), pair.right)?;
     }
-    let _space = store.space();
+    store.acyclic();
     Ok(())
 }

@@ -26,9 +26,9 @@ shown_front-requires-in-Some t c =
 pub fate-requires : goal.fate-requires
 fate-requires t c = (lit< tt, (lit< tt, is-of-space _ c.args.part.now _ c.requires.pattern c.context.ensures.sized c.least.ensures))
 
-pub returns-in_ok-right-in-Some : goal.returns-in_ok-right-in-Some
-returns-in_ok-right-in-Some t c =
+pub returns-in-Ok : goal.returns-in-Ok
+returns-in-Ok t c =
     let opened = opened-in-part c.args.part.now _ _ c.context.ensures.is c.context.ensures.sized c.in-Some.ensures.both.0 c.in-Some.ensures.both.1 in
     IfOk-weaker c.joined.result _ (IsShownFront c.args.store.now c.args.pattern.now c.args.root c.args.mark c.args.part.now)
-    (λ front joined. shown-both c.args.store.now c.args.pattern.now c.args.root c.args.mark c.args.part.now _ _ c.in-Some.dim _ _ front opened c.with-left.ensures c.with-right.ensures c.in_ok-left-in-Some.ensures c.in_ok-right-in-Some.ensures joined)
+    (λ front joined. shown-both c.args.store.now c.args.pattern.now c.args.root c.args.mark c.args.part.now _ _ c.in-Some.dim _ _ front opened c.with-left.ensures c.with-right.ensures c.in_ok-left-in-Some.ensures c.in-Ok.ensures joined)
     c.joined.ensures

@@ -8,7 +8,10 @@ abbrev pub decreases-build : goal.decreases-build
 decreases-build l = 512 * nodes l.vtype.now + 300
 
 abbrev pub decreases-split : goal.decreases-split
-decreases-split l = 512 * nodes l.vtype.now + 1
+decreases-split l = 512 * nodes l.vtype.now + 2
+
+abbrev pub decreases-build_side : goal.decreases-build_side
+decreases-build_side l = 512 * nodes l.vtype.now + 1
 
 abbrev pub decreases-build_kids : goal.decreases-build_kids
 decreases-build_kids l = 512 * nodes l.vtype.now + l.count

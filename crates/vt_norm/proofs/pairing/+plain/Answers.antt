@@ -24,15 +24,14 @@ plain-returns-in_ok-kids-in-Con-clause-met g t c = made-met (cell_count c.args.s
 pub plain-returns-in_ok-kids-in-Con-clause-built : goal.plain-returns-in_ok-kids-in-Con-clause-built
 plain-returns-in_ok-kids-in-Con-clause-built g t c = made-built (cell_count c.args.store.now) (ends_at c.args.store.now c.args.decision.now) c.looked.ensures.acyclic c.args.cell c.requires.cell c.in-Con.head c.in-Con.kids.now c.in-Con.ensures.looks c.args.way.now.items _ c.in_ok-kids-in-Con.kids c.in_ok-kids-in-Con.ensures.built
 
-pub plain_kids-returns-in_err-others-clause-too_big : goal.plain_kids-returns-in_err-others-clause-too_big
-plain_kids-returns-in_err-others-clause-too_big g t c =
-    let p = err_from_is_err_and c.from_residual-in_err-others.result c.from_residual-in_err-others.ensures.1 in
+pub plain_kids-returns-in-Err-clause-too_big : goal.plain_kids-returns-in-Err-clause-too_big
+plain_kids-returns-in-Err-clause-too_big g t c e =
     let below : c.args.number < length c.args.kids.now = omega (arith, c.if-number-kids.false) in
     let is = drop_more c.args.kids.now c.args.number c.index-kids-number.result below ∙ ap (λ own. own ∷ drop (c.args.number + 1) c.args.kids.now) (sym c.index-kids-number.is) in
     let back : c.pop.new.self.items ≡ c.args.way.now.items = grind (arith, common_steps) in
     let met = rw c.in_ok-enter.ensures at c.in_ok-first.ensures.met in
     let built = rw c.in_ok-enter.ensures at c.in_ok-first.ensures.built in
-    rw (p.1, p.2) (λ e. others-beyond (cell_count c.args.store.now) (ends_at c.args.store.now c.args.decision.now) (drop c.args.number c.args.kids.now) c.index-kids-number.result (drop (c.args.number + 1) c.args.kids.now) is c.args.number c.args.way.now.items (places_of c.args.seen.now.items) (places_of c.plain.new.seen.items) _ _ c.in_ok-first.first built c.in_ok-first.ensures.spare (c.in_err-others.ensures.too_big e))
+    others-beyond (cell_count c.args.store.now) (ends_at c.args.store.now c.args.decision.now) (drop c.args.number c.args.kids.now) c.index-kids-number.result (drop (c.args.number + 1) c.args.kids.now) is c.args.number c.args.way.now.items (places_of c.args.seen.now.items) (places_of c.plain.new.seen.items) _ _ c.in_ok-first.first built c.in_ok-first.ensures.spare (c.in-Err.ensures.too_big e)
 
 pub plain_kids-returns-clause-built : goal.plain_kids-returns-clause-built
 plain_kids-returns-clause-built g t c =
@@ -41,7 +40,7 @@ plain_kids-returns-clause-built g t c =
     let back : c.pop.new.self.items ≡ c.args.way.now.items = grind (arith, common_steps) in
     let met = rw c.in_ok-enter.ensures at c.in_ok-first.ensures.met in
     let built = rw c.in_ok-enter.ensures at c.in_ok-first.ensures.built in
-    more-built (cell_count c.args.store.now) (ends_at c.args.store.now c.args.decision.now) (drop c.args.number c.args.kids.now) c.index-kids-number.result (drop (c.args.number + 1) c.args.kids.now) is c.args.number c.args.way.now.items (places_of c.args.seen.now.items) (places_of c.plain.new.seen.items) c.in_ok-first.first c.in_ok-others.others _ met built (rw back at c.in_ok-others.ensures.built) c.in_ok-more.ensures
+    more-built (cell_count c.args.store.now) (ends_at c.args.store.now c.args.decision.now) (drop c.args.number c.args.kids.now) c.index-kids-number.result (drop (c.args.number + 1) c.args.kids.now) is c.args.number c.args.way.now.items (places_of c.args.seen.now.items) (places_of c.plain.new.seen.items) c.in_ok-first.first c.in-Ok.others _ met built (rw back at c.in-Ok.ensures.built) c.in_ok-more.ensures
 
 pub plain_kids-returns-clause-met : goal.plain_kids-returns-clause-met
 plain_kids-returns-clause-met g t c =
@@ -50,4 +49,4 @@ plain_kids-returns-clause-met g t c =
     let back : c.pop.new.self.items ≡ c.args.way.now.items = grind (arith, common_steps) in
     let met = rw c.in_ok-enter.ensures at c.in_ok-first.ensures.met in
     let built = rw c.in_ok-enter.ensures at c.in_ok-first.ensures.built in
-    more-met (cell_count c.args.store.now) (ends_at c.args.store.now c.args.decision.now) (drop c.args.number c.args.kids.now) c.index-kids-number.result (drop (c.args.number + 1) c.args.kids.now) is c.args.number c.args.way.now.items (places_of c.args.seen.now.items) (places_of c.plain.new.seen.items) _ met (rw back at c.in_ok-others.ensures.met)
+    more-met (cell_count c.args.store.now) (ends_at c.args.store.now c.args.decision.now) (drop c.args.number c.args.kids.now) c.index-kids-number.result (drop (c.args.number + 1) c.args.kids.now) is c.args.number c.args.way.now.items (places_of c.args.seen.now.items) (places_of c.plain.new.seen.items) _ met (rw back at c.in-Ok.ensures.met)

@@ -19,11 +19,11 @@ returns-in-Open c =
 
 pub returns-in-Con : goal.returns-in-Con
 returns-in-Con c =
-    turn-made c.args.store.now c.args.part.now c.args.cell c.links.last c.in-Con.head c.in-Con.kids.now _ c.least.result (c.new-kids.ensures ∙ c.in_ok-from_slice-in-Con.ensures.items) (λ d a. c.space-space.ensures.arities d (is-of-space _ c.args.part.now d c.links.invariant.space c.context-within.ensures.sized a)) (c.space-space.ensures.acyclic c.least.result (is-of-space _ c.args.part.now _ c.links.invariant.space c.context-within.ensures.sized c.least.ensures)) c.links.invariant.within c.links.invariant.leads (one-of c.args.store.now c.args.part.now _ c.links.last c.links.invariant.context (c.in-None.ensures.alike refl)) c.least.ensures c.in-Con.ensures
+    turn-made c.args.store.now c.args.part.now c.args.cell c.links.last c.in-Con.head c.in-Con.kids.now _ c.least.result (c.new-kids.ensures ∙ c.in_ok-from_slice-in-Con.ensures.items) (λ d a. c.acyclic.ensures.arities d (is-of-space _ c.args.part.now d c.links.invariant.space c.context-within.ensures.sized a)) (c.acyclic.ensures.acyclic c.least.result (is-of-space _ c.args.part.now _ c.links.invariant.space c.context-within.ensures.sized c.least.ensures)) c.links.invariant.within c.links.invariant.leads (one-of c.args.store.now c.args.part.now _ c.links.last c.links.invariant.context (c.in-None.ensures.alike refl)) c.least.ensures c.in-Con.ensures
 
 pub links-preserved : goal.links-preserved
 links-preserved c = record {
-  within = next-within c.args.store.now c.least.result c.links.last c.in-Link.next (c.space-space.ensures.acyclic c.least.result (is-of-space _ c.args.part.now _ c.links.invariant.space c.context-within.ensures.sized c.least.ensures)) c.links.invariant.within c.in-Link.ensures;
+  within = next-within c.args.store.now c.least.result c.links.last c.in-Link.next (c.acyclic.ensures.acyclic c.least.result (is-of-space _ c.args.part.now _ c.links.invariant.space c.context-within.ensures.sized c.least.ensures)) c.links.invariant.within c.in-Link.ensures;
   leads = leads-on c.args.store.now c.args.part.now c.args.cell c.links.last c.in-Link.next c.least.result c.links.invariant.within c.links.invariant.leads (one-of c.args.store.now c.args.part.now _ c.links.last c.links.invariant.context (c.in-None.ensures.alike refl)) c.least.ensures c.in-Link.ensures;
   context = c.links.invariant.context;
   space = c.links.invariant.space;

@@ -26,7 +26,7 @@ linked-requires-in-Some t c =
 
 pub returns-in_ok-push-in-Link : goal.returns-in_ok-push-in-Link
 returns-in_ok-push-in-Link t c =
-    linked-one c.args.store.now c.args.part.now c.args.cell c.in-Link.next c.least.result _ (c.space-space.ensures.acyclic c.least.result (is-of-space _ c.args.part.now _ c.requires.space c.context.ensures.sized c.least.ensures)) c.requires.cell (one-of c.args.store.now c.args.part.now _ c.args.cell c.context.ensures.is (c.in-None.ensures.alike refl)) c.least.ensures c.in-Link.ensures
+    linked-one c.args.store.now c.args.part.now c.args.cell c.in-Link.next c.least.result _ (c.acyclic.ensures.acyclic c.least.result (is-of-space _ c.args.part.now _ c.requires.space c.context.ensures.sized c.least.ensures)) c.requires.cell (one-of c.args.store.now c.args.part.now _ c.args.cell c.context.ensures.is (c.in-None.ensures.alike refl)) c.least.ensures c.in-Link.ensures
     (c.in_ok-push-in-Link.ensures.items ∙ ap (λ own. own ++ c.in-Link.next ∷ []) c.new-cells.ensures.items)
 
 pub returns-in_ok-extend_from_slice-in-Some : goal.returns-in_ok-extend_from_slice-in-Some

@@ -20,7 +20,7 @@ turn-requires g c =
 pub returns-then-is_some-clause-worked : goal.returns-then-is_some-clause-worked
 returns-then-is_some-clause-worked g c =
     let taken = last_taken c.args.whole.now c.loop-pair.pairs.narrowed.items c.pop.new.self.narrowed.items c.loop-pair.pairs.list.items c.pop.new.self.list.items c.in-Some.pair c.in-Some.ensures.narrowed c.in-Some.ensures.list in
-    worked_some g.row.N c.args.node c.args.store.now c.space-space.ensures.acyclic c.args.pattern.now c.loop-pair.pattern c.turn.new.pattern (equations_in c.args.whole.now c.args.pairs.now) (equations_in c.args.whole.now c.loop-pair.pairs) (equations_in c.args.whole.now c.pop.new.self) (equations_in c.args.whole.now c.turn.new.pairs) (equation_of c.args.whole.now c.pop.new.self.narrowed.items c.in-Some.pair) taken
+    worked_some g.row.N c.args.node c.args.store.now c.acyclic.ensures.acyclic c.args.pattern.now c.loop-pair.pattern c.turn.new.pattern (equations_in c.args.whole.now c.args.pairs.now) (equations_in c.args.whole.now c.loop-pair.pairs) (equations_in c.args.whole.now c.pop.new.self) (equations_in c.args.whole.now c.turn.new.pairs) (equation_of c.args.whole.now c.pop.new.self.narrowed.items c.in-Some.pair) taken
     (option_map (equation_of c.args.whole.now c.turn.new.pairs.narrowed.items) c.in_ok-found.found) (is_some-mapped (equation_of c.args.whole.now c.turn.new.pairs.narrowed.items) c.in_ok-found.found (sym c.is_some.ensures ∙ c.if-is_some.true))
     c.loop-pair.invariant.space c.loop-pair.invariant.turned c.loop-pair.invariant.posed c.loop-pair.invariant.inside c.in_ok-found.ensures.turn
 
@@ -31,7 +31,7 @@ loop-pair-smaller g c =
     subst (λ found. IsTurn g.row.N c.args.node c.args.store.now c.loop-pair.pattern c.turn.new.pattern (equation_of c.args.whole.now c.pop.new.self.narrowed.items c.in-Some.pair) (equations_in c.args.whole.now c.pop.new.self)
     (equations_in c.args.whole.now c.turn.new.pairs) (option_map (equation_of c.args.whole.now c.turn.new.pairs.narrowed.items) found)) (no_option c.in_ok-found.found (sym c.is_some.ensures ∙ c.if-is_some.false)) c.in_ok-found.ensures.turn
     in
-    falls_none g.row.N c.args.node c.args.store.now c.space-space.ensures.acyclic c.args.pattern.now c.loop-pair.pattern c.turn.new.pattern (equations_in c.args.whole.now c.args.pairs.now) (equations_in c.args.whole.now c.loop-pair.pairs) (equations_in c.args.whole.now c.pop.new.self) (equations_in c.args.whole.now c.turn.new.pairs) (equation_of c.args.whole.now c.pop.new.self.narrowed.items c.in-Some.pair) taken c.loop-pair.invariant.posed turn
+    falls_none g.row.N c.args.node c.args.store.now c.acyclic.ensures.acyclic c.args.pattern.now c.loop-pair.pattern c.turn.new.pattern (equations_in c.args.whole.now c.args.pairs.now) (equations_in c.args.whole.now c.loop-pair.pairs) (equations_in c.args.whole.now c.pop.new.self) (equations_in c.args.whole.now c.turn.new.pairs) (equation_of c.args.whole.now c.pop.new.self.narrowed.items c.in-Some.pair) taken c.loop-pair.invariant.posed turn
 
 pub loop-pair-preserved : goal.loop-pair-preserved
 loop-pair-preserved g c =
@@ -40,11 +40,11 @@ loop-pair-preserved g c =
     subst (λ found. IsTurn g.row.N c.args.node c.args.store.now c.loop-pair.pattern c.turn.new.pattern (equation_of c.args.whole.now c.pop.new.self.narrowed.items c.in-Some.pair) (equations_in c.args.whole.now c.pop.new.self)
     (equations_in c.args.whole.now c.turn.new.pairs) (option_map (equation_of c.args.whole.now c.turn.new.pairs.narrowed.items) found)) (no_option c.in_ok-found.found (sym c.is_some.ensures ∙ c.if-is_some.false)) c.in_ok-found.ensures.turn
     in
-    let worked = worked_none g.row.N c.args.node c.args.store.now c.space-space.ensures.acyclic c.args.pattern.now c.loop-pair.pattern c.turn.new.pattern (equations_in c.args.whole.now c.args.pairs.now) (equations_in c.args.whole.now c.loop-pair.pairs) (equations_in c.args.whole.now c.pop.new.self) (equations_in c.args.whole.now c.turn.new.pairs) (equation_of c.args.whole.now c.pop.new.self.narrowed.items c.in-Some.pair) taken c.loop-pair.invariant.turned c.loop-pair.invariant.posed turn in
+    let worked = worked_none g.row.N c.args.node c.args.store.now c.acyclic.ensures.acyclic c.args.pattern.now c.loop-pair.pattern c.turn.new.pattern (equations_in c.args.whole.now c.args.pairs.now) (equations_in c.args.whole.now c.loop-pair.pairs) (equations_in c.args.whole.now c.pop.new.self) (equations_in c.args.whole.now c.turn.new.pairs) (equation_of c.args.whole.now c.pop.new.self.narrowed.items c.in-Some.pair) taken c.loop-pair.invariant.turned c.loop-pair.invariant.posed turn in
     record {
       turned = worked.0;
       posed = worked.1;
-      inside = λ region all. inside_none g.row.N c.args.node c.args.store.now c.space-space.ensures.acyclic c.args.pattern.now c.loop-pair.pattern c.turn.new.pattern (equations_in c.args.whole.now c.args.pairs.now) (equations_in c.args.whole.now c.loop-pair.pairs) (equations_in c.args.whole.now c.pop.new.self) (equations_in c.args.whole.now c.turn.new.pairs) (equation_of c.args.whole.now c.pop.new.self.narrowed.items c.in-Some.pair) taken region (c.loop-pair.invariant.inside region all) turn;
+      inside = λ region all. inside_none g.row.N c.args.node c.args.store.now c.acyclic.ensures.acyclic c.args.pattern.now c.loop-pair.pattern c.turn.new.pattern (equations_in c.args.whole.now c.args.pairs.now) (equations_in c.args.whole.now c.loop-pair.pairs) (equations_in c.args.whole.now c.pop.new.self) (equations_in c.args.whole.now c.turn.new.pairs) (equation_of c.args.whole.now c.pop.new.self.narrowed.items c.in-Some.pair) taken region (c.loop-pair.invariant.inside region all) turn;
       known = c.in_ok-found.ensures.known.0;
       carried = c.in_ok-found.ensures.carried (no_option c.in_ok-found.found (sym c.is_some.ensures ∙ c.if-is_some.false));
       space = turn.1 ∙ c.loop-pair.invariant.space;

@@ -43,7 +43,7 @@ returns-in_ok-push_parts-in-Parts-clause-known g c = (
 pub returns-in_ok-push_parts-in-Parts-clause-turn : goal.returns-in_ok-push_parts-in-Parts-clause-turn
 returns-in_ok-push_parts-in-Parts-clause-turn g c =
     turn_parts g.row.N c.args.node c.args.store.now c.args.pattern.now (equation_of c.args.whole.now c.args.pairs.now.narrowed.items c.args.pair.now) (equations_in c.args.whole.now c.args.pairs.now) c.requires.posed
-    c.in-Parts.lefts.now c.in-Parts.rights.now (equations_in c.args.whole.now c.push_parts.new.pairs) c.space-space.ensures.acyclic c.space-space.ensures.arities
+    c.in-Parts.lefts.now c.in-Parts.rights.now (equations_in c.args.whole.now c.push_parts.new.pairs) c.acyclic.ensures.acyclic c.acyclic.ensures.arities
     (compared_at g.row.N c.args.store.now c.context-within.result.now _ c.args.pair.now.left c.args.pair.now.right c.in-Ok.found (found.Parts c.in-Parts.lefts c.in-Parts.rights) c.context-within.ensures c.in-Parts.is
     c.in-Ok.ensures)
     (parts_more c.args.whole.now c.args.pairs.now.narrowed.items c.push_parts.new.pairs.narrowed.items c.args.pair.now.context c.in-Parts.lefts.now c.in-Parts.rights.now c.args.pairs.now.list.items
@@ -88,6 +88,6 @@ returns-in_ok-push_parts-in-Parts-clause-carried g c = λ none.
     c.in-Ok.ensures)
     in
     carried_parts g.row.N c.args.store.now c.args.pattern.now (equations_in c.args.whole.now c.args.pairs.now) c.args.whole.now c.args.pairs.now.narrowed.items c.push_parts.new.pairs.narrowed.items (equations_in c.args.whole.now c.push_parts.new.pairs) c.args.seen.now c.insert.new.self
-    c.args.pair.now c.in-Parts.lefts.now c.in-Parts.rights.now c.requires.posed c.space-space.ensures.acyclic c.space-space.ensures.arities made
+    c.args.pair.now c.in-Parts.lefts.now c.in-Parts.rights.now c.requires.posed c.acyclic.ensures.acyclic c.acyclic.ensures.arities made
     (parts_more c.args.whole.now c.args.pairs.now.narrowed.items c.push_parts.new.pairs.narrowed.items c.args.pair.now.context c.in-Parts.lefts.now c.in-Parts.rights.now c.args.pairs.now.list.items
     c.push_parts.new.pairs.list.items c.in_ok-push_parts-in-Parts.ensures.narrowed c.in_ok-push_parts-in-Parts.ensures.list) c.in_ok-push_parts-in-Parts.ensures.narrowed c.requires.pair_known c.in_ok-added-in-Parts.ensures.only c.requires.carried

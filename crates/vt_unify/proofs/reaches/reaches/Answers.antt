@@ -22,13 +22,13 @@ named-requires g c =
 pub cells-smaller : goal.cells-smaller
 cells-smaller g c =
     Searching-fewer g.row.N c.args.store.now c.args.within.now c.args.outer c.args.inner _ c.pop.new.self.items _ c.in-Some.visit.cell c.in-Some.visit.split c.in-Some.ensures.items c.cells.invariant
-    c.space-sized.ensures.sized c.requires.space c.space-space.ensures.acyclic _ (c.in_ok-named.ensures) c.splits.result c.splits.ensures.both c.splits.ensures.alike
+    c.space-sized.ensures.sized c.requires.space c.acyclic.ensures.acyclic _ (c.in_ok-named.ensures) c.splits.result c.splits.ensures.both c.splits.ensures.alike
     _ c.see-in-Some.new.self refl refl (search rules) c.or-split.result c.or-split.ensures (rw c.deref.ensures.value at c.in_ok-see-2.ensures)
 
 pub cells-preserved : goal.cells-preserved
 cells-preserved g c =
     Searching-more g.row.N c.args.store.now c.args.within.now c.args.outer c.args.inner _ c.pop.new.self.items _ c.in-Some.visit.cell c.in-Some.visit.split c.in-Some.ensures.items c.cells.invariant
-    c.space-sized.ensures.sized c.requires.space c.space-space.ensures.acyclic _ (c.in_ok-named.ensures) c.splits.result c.splits.ensures.both c.splits.ensures.alike
+    c.space-sized.ensures.sized c.requires.space c.acyclic.ensures.acyclic _ (c.in_ok-named.ensures) c.splits.result c.splits.ensures.both c.splits.ensures.alike
     _ c.see-in-Some.new.self refl refl (search rules) c.or-split.result c.or-split.ensures (rw c.deref.ensures.value at c.in_ok-see-2.ensures)
 
 pub returns : goal.returns

@@ -1,7 +1,7 @@
 use Rattle.std.proofs.Common.{◌<◌}
 use Rattle.vt_store.specs.Stores.{cell_count, ends_at}
 use Rattle.vt_unify.specs.Walks.{LeadsTo}
-use Rattle.vt_unify.proofs.WalkRoots.{links}
+use Rattle.vt_store.proofs.Links.{links}
 use Rattle.vt_unify.proofs.root.root.Given as goal
 
 abbrev pub invariant-links : goal.invariant-links

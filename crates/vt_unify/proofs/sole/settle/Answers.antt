@@ -30,7 +30,7 @@ pub returns-clause-pending : goal.returns-clause-pending
 returns-clause-pending g c =
     let linked = rw c.in-Some.is at c.in_ok-cells.ensures in
     let below =
-    All-linked g.row.N c.args.store.now c.args.within.now c.space-sized.ensures.sized c.requires.space c.space-space.ensures.acyclic c.args.next.cell c.in-Some.cells.items c.requires.cell linked
+    All-linked g.row.N c.args.store.now c.args.within.now c.space-sized.ensures.sized c.requires.space c.acyclic.ensures.acyclic c.args.next.cell c.in-Some.cells.items c.requires.cell linked
     in
     let P : Visit → Type 0 = λ own. own.cell < cell_count c.args.store.now in
     let pushed : All P c.push.new.self.items = rw c.in_ok-push.ensures.items (All-push P c.args.pending.now.items _ c.requires.pending c.requires.cell) in

@@ -6,12 +6,13 @@ use Rattle.vt_dec.specs.Decisions.{Region, Admits}
 use Rattle.vt_dec.proofs.Regions.{Admits-least}
 use Rattle.vt_store.specs.Ends.{Free, Reaches}
 use Rattle.vt_store.specs.Stores.{ends_at, IsBound}
+use Rattle.vt_store.proofs.Solutions.{have_solutions}
 use Rattle.vt_unify.specs.Turns.{IsWorked}
 use Rattle.vt_unify.specs.Pairs.{equation_of, equations_in}
 use Rattle.vt_unify.proofs.Resolving.{first_equation, first_known}
 use Rattle.vt_unify.proofs.Turning.{never_some, binding_posed, all_worked}
 use Rattle.vt_unify.proofs.Binding.{open_cells-falls}
-use Rattle.vt_unify.proofs.Unifying.{IsUnderway, have_solutions, underway_first, underway_worked, underway_bound, underway_last}
+use Rattle.vt_unify.proofs.Unifying.{IsUnderway, underway_first, underway_worked, underway_bound, underway_last}
 use Rattle.vt_unify.proofs.unifier.unify.Goals as goal
 
 pub loop-pairs-init : goal.loop-pairs-init
@@ -96,6 +97,6 @@ returns g c =
     record {
       ok =
           underway_last g.row.N c.args.node c.args.within.now c.args.x c.args.y c.args.store.now c.args.pattern.now c.loop-pairs.store c.next_binding.new.pattern done c.space-sized.ensures.sized c.requires.space
-          (have_solutions g.row.N c.args.store.now c.most_general_solution.ensures c.space-space.ensures.acyclic c.space-space.ensures.arities)
-          (have_solutions g.row.N c.loop-pairs.store c.most_general_solution.ensures c.space-space-2.ensures.acyclic c.space-space-2.ensures.arities);
+          (have_solutions g.row.N c.args.store.now c.most_general_solution.ensures c.acyclic.ensures.acyclic c.acyclic.ensures.arities)
+          (have_solutions g.row.N c.loop-pairs.store c.most_general_solution.ensures c.acyclic-2.ensures.acyclic c.acyclic-2.ensures.arities);
     }

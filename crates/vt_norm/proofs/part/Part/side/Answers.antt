@@ -1,5 +1,6 @@
-use Rattle.std.proofs.Common.{◌≡◌, None, slice_get, refl, arith}
-use Rattle.vt_norm.proofs.Deciding.{open-of-sides, agrees-length, past-end, some-side}
+use Rattle.std.proofs.Common.{◌≡◌, None, slice_get, refl, arith, sym}
+use Rattle.vt_dec.proofs.Agreement.{Agrees-length}
+use Rattle.vt_norm.proofs.Deciding.{open-of-sides, past-end, some-side}
 use Rattle.vt_norm.proofs.part.Part.side.Goals as goal
 
 pub returns-then-dim-lt64-clause-some : goal.returns-then-dim-lt64-clause-some
@@ -12,6 +13,6 @@ returns-then-dim-lt64-clause-none c e =
 pub returns-else-dim-lt64-clause-some : goal.returns-else-dim-lt64-clause-some
 returns-else-dim-lt64-clause-some c d h =
     let below = rw c.dim.view_is at c.if-dim-lt64.false in
-    let long = agrees-length _ d (rw (← c.self.view_is) at h) in
+    let long = sym (Agrees-length _ d (rw (← c.self.view_is) at h)) in
     let e : slice_get d c.args.dim ≡ None = past-end d c.args.dim (omega (arith, below, long, c.self.invariant.sized)) in
     rw e refl
