@@ -14,8 +14,6 @@ mod fate;
 mod ids;
 pub mod laws;
 mod side;
-#[cfg(test)]
-mod tests;
 
 pub use context::Context;
 pub use decision::Decision;

@@ -16,8 +16,6 @@ mod level;
 mod read;
 mod reader;
 mod show;
-#[cfg(test)]
-mod tests;
 mod variational;
 mod writer;
 

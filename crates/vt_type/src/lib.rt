@@ -26,8 +26,6 @@ mod path;
 mod plain;
 mod same;
 mod select;
-#[cfg(test)]
-mod tests;
 mod vtype;
 
 pub use canonical::canon;

@@ -1,6 +1,6 @@
 ghost use Rattle.std.specs.Prelude.{◌*◌, ◌<◌};
 
-use crate::{Context, Decision, Dim, Side, Space};
+use vt_dec::{Context, Decision, Dim, Side, Space};
 
 /// A decision that takes `Right` at the last dimension alone.
 fn last_right<const N: usize>(last: Dim) -> Decision<N>

@@ -1,10 +1,13 @@
-ghost use Rattle.std.specs.Prelude.{◌≡◌, [], ◌∷◌, codes, IfOk};
+ghost use Rattle.std.specs.Prelude.{◌≡◌, [], ◌∷◌, codes, length, IfOk};
 ghost use Rattle.vt_type.specs.Plain.{IsWellFormed};
+ghost use Rattle.vt_type.specs.Variational.{IsWellFormedV};
+ghost use Rattle.vt_show.specs.Conditions.{DimsBelow};
 
-use crate::{read_type, show_pair, show_type};
+use crate::spelling::prefix_of_choices;
 use std::alloc::{AllocError, Global};
 use std::test::Fail;
-use vt_type::{ChangeLine, Head, Names, Path, Plain, Tables, VKids, VType};
+use vt_show::{laws, read_type, show_pair, show_type};
+use vt_type::{ChangeLine, Names, Path, Plain, Tables, VType};
 
 // The tables of a program with one dimension, A.
 fn tables(alloc: Global) -> Result<Tables, AllocError>
@@ -19,61 +22,36 @@ fn tables(alloc: Global) -> Result<Tables, AllocError>
 // The type of a text, in prefix form, and its text.
 fn round_trip(alloc: Global, text: &str) -> Result<Option<(String, String)>, AllocError> {
     let tables = tables(alloc)?;
-    let Some(vtype) = read_type(alloc, text, &tables)? else {
-        return Ok(None);
-    };
-    let mut prefix = String::new(alloc);
-    write_prefix(&vtype, &mut prefix)?;
-    Ok(Some((prefix, show_type(alloc, &vtype, &tables)?)))
-}
-
-// Each head, choice and error before its parts, and a variable as its path after a quote.
-#[cycle(prefix)]
-fn write_prefix(vtype: &VType, out: &mut String) -> Result<(), AllocError> {
-    if !out.is_empty() {
-        out.push(' ')?;
-    }
-    match vtype {
-        VType::Var(path) => {
-            out.push('\'')?;
-            for step in path.as_slice() {
-                out.push(char::from(b'0' + step % 10))?;
-            }
-            Ok(())
+    match read_type(alloc, text, &tables)? {
+        Some(vtype) => {
+            let texts = both_texts(alloc, &vtype, &tables);
+            drop(vtype);
+            Ok(Some(texts?))
         }
-        VType::Con(head, kids) => {
-            out.push_str(head_text(*head))?;
-            write_kids(kids, out)
-        }
-        VType::Choice(_, left, right) => {
-            out.push('@')?;
-            write_prefix(left.get(), out)?;
-            write_prefix(right.get(), out)
-        }
-        VType::Err => out.push('!'),
+        None => Ok(None),
     }
 }
 
-#[cycle(prefix)]
-fn write_kids(kids: &VKids, out: &mut String) -> Result<(), AllocError> {
-    match kids {
-        VKids::Nil => Ok(()),
-        VKids::More(first, others) => {
-            write_prefix(first.get(), out)?;
-            write_kids(others.get(), out)
-        }
+fn both_texts(alloc: Global, vtype: &VType, tables: &Tables) -> Result<(String, String), AllocError>
+    requires well_formed { IsWellFormedV vtype.now }
+    requires named { DimsBelow (length tables.now.dims) vtype.now }
+{
+    let prefix = prefix_of_choices(alloc, vtype)?;
+    Ok((prefix, show_type(alloc, vtype, tables)?))
+}
+
+// The text is read as the type with this prefix form, which is shown as this text.
+fn comes_back(alloc: Global, text: &str, prefix: &str, shown: &str) -> Result<bool, AllocError> {
+    match round_trip(alloc, text)? {
+        Some((read, again)) => Ok(read.as_str() == prefix && again.as_str() == shown),
+        None => Ok(false),
     }
 }
 
-fn head_text(head: Head) -> &'static str {
-    match head {
-        Head::Int => "Int",
-        Head::Bool => "Bool",
-        Head::Text => "String",
-        Head::List => "List",
-        Head::Pair => "Pair",
-        Head::Fun => "Fun",
-        Head::Data { .. } => "Data",
+fn is_shown_as_read(alloc: Global, text: &str) -> Result<bool, AllocError> {
+    match round_trip(alloc, text)? {
+        Some((_, again)) => Ok(again.as_str() == text),
+        None => Ok(false),
     }
 }
 
@@ -130,9 +108,7 @@ fn texts_are_read_and_shown(rt: HostRuntime) -> Result<(), Fail> {
         ),
     ];
     for (text, prefix, shown) in rows {
-        let (read, again) = round_trip(rt.alloc(), text)?.ok_or("not spelled")?;
-        assert_eq!(rt; read.as_str(), prefix, "{text}");
-        assert_eq!(rt; again.as_str(), shown, "{text}");
+        assert!(rt; comes_back(rt.alloc(), text, prefix, shown)?, "{text}");
     }
     Ok(())
 }
@@ -172,8 +148,7 @@ fn other_texts_are_not_read(rt: HostRuntime) -> Result<(), Fail> {
 fn letters_go_on_after_z(rt: HostRuntime) -> Result<(), Fail> {
     let text =
         "'a -> 'b -> 'c -> 'd -> 'e -> 'f -> 'g -> 'h -> 'i -> 'j -> 'k -> 'l -> 'm -> 'n -> 'o -> 'p -> 'q -> 'r -> 's -> 't -> 'u -> 'v -> 'w -> 'x -> 'y -> 'z -> 'a1 -> 'b1 -> 'a";
-    let (_, shown) = round_trip(rt.alloc(), text)?.ok_or("not spelled")?;
-    assert_eq!(rt; shown.as_str(), text);
+    assert!(rt; is_shown_as_read(rt.alloc(), text)?);
     Ok(())
 }
 
@@ -183,18 +158,52 @@ fn variable(alloc: Global, step: u8) -> Result<Plain, AllocError>
     Ok(Plain::Var(Path::new(Vec::from_slice(alloc, &[step])?)))
 }
 
-#[test]
-fn a_pair_has_one_run_of_letters(rt: HostRuntime) -> Result<(), Fail> {
-    let alloc = rt.alloc();
+fn wanted(alloc: Global) -> Result<Plain, AllocError>
+    ensures { IfOk result IsWellFormed }
+{
+    let from = variable(alloc, 5);
+    let to = variable(alloc, 3);
+    Plain::fun(alloc, from?, to?)
+}
+
+fn found(alloc: Global) -> Result<Plain, AllocError>
+    ensures { IfOk result IsWellFormed }
+{
+    let left = variable(alloc, 3);
+    let right = variable(alloc, 4);
+    Plain::pair(alloc, left?, right?)
+}
+
+fn shown_change(alloc: Global, wanted: Plain, found: Plain) -> Result<String, AllocError>
+    requires wanted { IsWellFormed wanted }
+    requires found { IsWellFormed found }
+{
     let pair = ChangeLine {
         leaf: 0,
         class: 0,
-        wanted: Plain::fun(alloc, variable(alloc, 5)?, variable(alloc, 3)?)?,
-        result: Plain::pair(alloc, variable(alloc, 3)?, variable(alloc, 4)?)?,
+        wanted,
+        result: found,
     };
-    let shown = show_pair(alloc, &pair, &tables(alloc)?)?;
+    match tables(alloc) {
+        Ok(tables) => {
+            let shown = show_pair(alloc, &pair, &tables);
+            drop(pair);
+            shown
+        }
+        Err(error) => {
+            drop(pair);
+            Err(error)
+        }
+    }
+}
+
+#[test]
+fn a_pair_has_one_run_of_letters(rt: HostRuntime) -> Result<(), Fail> {
+    let wanted = wanted(rt.alloc());
+    let found = found(rt.alloc());
+    let shown = shown_change(rt.alloc(), wanted?, found?)?;
     assert_eq!(rt; shown.as_str(), "wants 'a -> 'b, result 'b * 'c");
-    crate::laws::one_spelling();
-    crate::laws::read_back();
+    laws::one_spelling();
+    laws::read_back();
     Ok(())
 }

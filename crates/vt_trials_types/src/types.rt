@@ -1,69 +1,19 @@
 ghost use Rattle.std.specs.Prelude.{IfOk};
 ghost use Rattle.vt_type.specs.Plain.{IsWellFormed};
-ghost use Rattle.vt_type.specs.Variational.{IsWellFormedV};
 
-use crate::{
-    ChangeLine, ConstId, Constants, Head, Names, Path, Plain, PlainKids, Selected, Tables, VKids,
-    VType, canon, instance_of,
-};
+use crate::spelling::{prefix, read};
 use std::alloc::{AllocError, Global};
 use std::test::Fail;
 use vt_dec::{Decision, Dim, Side};
+use vt_type::{
+    ChangeLine, ConstId, Constants, Head, Names, Path, Plain, Selected, Tables, VKids, VType,
+    canon, instance_of, laws,
+};
 
 fn variable(alloc: Global, step: u8) -> Result<Plain, AllocError>
     ensures { IfOk result IsWellFormed }
 {
     Ok(Plain::Var(Path::new(Vec::from_slice(alloc, &[step])?)))
-}
-
-// A type in prefix form: each head before its children, a variable as its path after a quote.
-#[cycle(prefix)]
-fn write_prefix(plain: &Plain, out: &mut String) -> Result<(), AllocError> {
-    if !out.is_empty() {
-        out.push(' ')?;
-    }
-    match plain {
-        Plain::Var(path) => {
-            out.push('\'')?;
-            for step in path.as_slice() {
-                out.push(char::from(b'0' + step % 10))?;
-            }
-            Ok(())
-        }
-        Plain::Con(head, kids) => {
-            out.push_str(head_text(*head))?;
-            write_kids(kids, out)
-        }
-    }
-}
-
-#[cycle(prefix)]
-fn write_kids(kids: &PlainKids, out: &mut String) -> Result<(), AllocError> {
-    match kids {
-        PlainKids::Nil => Ok(()),
-        PlainKids::More(first, others) => {
-            write_prefix(first.get(), out)?;
-            write_kids(others.get(), out)
-        }
-    }
-}
-
-fn head_text(head: Head) -> &'static str {
-    match head {
-        Head::Int => "Int",
-        Head::Bool => "Bool",
-        Head::Text => "String",
-        Head::List => "List",
-        Head::Pair => "Pair",
-        Head::Fun => "Fun",
-        Head::Data { .. } => "Data",
-    }
-}
-
-fn prefix(alloc: Global, plain: &Plain) -> Result<String, AllocError> {
-    let mut text = String::new(alloc);
-    write_prefix(plain, &mut text)?;
-    Ok(text)
 }
 
 #[test]
@@ -190,51 +140,48 @@ fn records_are_made(rt: HostRuntime) -> Result<(), Fail> {
         result: Plain::int(),
     };
     assert!(rt; !line.wanted.is_same(&line.result));
-    crate::laws::same_up_to_renaming();
-    crate::laws::canonical_again();
+    laws::same_up_to_renaming();
+    laws::canonical_again();
     Ok(())
 }
 
-// The type `'a -> @A{'a, Int}`, with A as dimension 0.
-fn function_to_a_choice(alloc: Global) -> Result<VType, AllocError>
-    ensures { IfOk result IsWellFormedV }
-{
-    let from = VType::Var(path(alloc, 0)?);
-    let same = VType::Var(path(alloc, 0)?);
-    let int = VType::Con(Head::Int, VKids::Nil);
-    let to = VType::choice(alloc, Dim(0), same, int)?;
-    let kids = VKids::more(alloc, to, VKids::Nil)?;
-    let kids = VKids::more(alloc, from, kids)?;
-    Ok(VType::Con(Head::Fun, kids))
+// The decision that takes the right of the first dimension alone.
+fn first_right() -> Decision<1> {
+    let mut decision = Decision::all_left();
+    decision.set(Dim(0), Side::Right);
+    decision
 }
 
-fn path(alloc: Global, step: u8) -> Result<Path, AllocError> {
-    Ok(Path::new(Vec::from_slice(alloc, &[step])?))
-}
-
-fn int_or_error(alloc: Global) -> Result<VType, AllocError>
-    ensures { IfOk result IsWellFormedV }
-{
-    let int = VType::Con(Head::Int, VKids::Nil);
-    VType::choice(alloc, Dim(0), int, VType::Err)
+// What the type of the text selects where A is right, in prefix form.
+fn selected(alloc: Global, text: &str) -> Result<Option<String>, AllocError> {
+    let vtype = read(alloc, text)?;
+    let found = vtype.select(alloc, &first_right());
+    drop(vtype);
+    match found? {
+        Selected::Found(plain) => {
+            let text = prefix(alloc, &plain);
+            drop(plain);
+            Ok(Some(text?))
+        }
+        Selected::Untyped => Ok(None),
+    }
 }
 
 #[test]
 fn a_type_is_selected(rt: HostRuntime) -> Result<(), Fail> {
-    let alloc = rt.alloc();
-    let mut decision = Decision::<1>::all_left();
-    decision.set(Dim(0), Side::Right);
+    let found = selected(rt.alloc(), "'a -> @A{'a, Int}")?;
+    assert!(rt; found.is_some_and(|text| text.as_str() == "Fun '0 Int"));
+    assert!(rt; selected(rt.alloc(), "@A{Int, !}")?.is_none());
+    Ok(())
+}
 
-    let want = Plain::fun(alloc, variable(alloc, 0)?, Plain::int())?;
-    let vtype = function_to_a_choice(alloc)?;
-    match vtype.select(alloc, &decision)? {
-        Selected::Found(plain) => assert!(rt; plain.is_same(&want)),
-        Selected::Untyped => assert!(rt; false, "it has a type"),
-    }
-    assert!(rt; matches!(vtype.at(&decision), VType::Con(_, _)));
-
-    let vtype = int_or_error(alloc)?;
-    assert!(rt; matches!(vtype.select(alloc, &decision)?, Selected::Untyped));
-    assert!(rt; matches!(vtype.at(&decision), VType::Err));
+#[test]
+fn a_type_has_a_root_at_a_decision(rt: HostRuntime) -> Result<(), Fail> {
+    let function = read(rt.alloc(), "'a -> @A{'a, Int}")?;
+    assert!(rt; matches!(function.at(&first_right()), VType::Con(Head::Fun, _)));
+    drop(function);
+    let choice = read(rt.alloc(), "@A{Int, !}")?;
+    assert!(rt; matches!(choice.at(&first_right()), VType::Err));
+    drop(choice);
     Ok(())
 }
