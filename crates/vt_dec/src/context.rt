@@ -62,6 +62,14 @@ impl<const N: usize> Context<N> {
         }
     }
 
+    /// Does nothing. A proof calls it that rests on what holds of each context.
+    pub fn sized(&self)
+        ensures sized { length self.now.sides ≡ 64 * N }
+        ensures kept { IsKept self.now }
+    {
+        let _space = self.space;
+    }
+
     /// The space that the context is a part of.
     pub fn space(&self) -> Space
         ensures part { result ≡ self.now.space }

@@ -1,4 +1,4 @@
-use Rattle.std.proofs.Common.{◌≡◌, ◌⊎◌, ℕ, zero, suc, List, [], ◌∷◌, ◌++◌, take, drop, length, refl, ap, sym, subst, ◌∙◌, append_assoc, take-append-drop, codes, Option, Some, None, inl, inr}
+use Rattle.std.proofs.Common.{◌≡◌, ◌⊎◌, ℕ, zero, suc, List, [], ◌∷◌, ◌++◌, take, length, refl, ap, sym, subst, ◌∙◌, append_assoc, take-append-drop, codes, Option, Some, None, inl, inr}
 use Rattle.std.proofs.lemmas.List.{append-nil}
 use Rattle.std.proofs.lemmas.Option.{same_Some, none-some, option_and_then_some}
 use Rattle.vt_type.specs.declared.head.Head.TheVariants.{Int, Bool as Truth, Text, List as ListOf, Pair, Fun}
@@ -7,7 +7,7 @@ use Rattle.vt_type.specs.declared.vtype.VKids.{Nil}
 use Rattle.vt_type.specs.Variational.{choice}
 use Rattle.vt_show.specs.Reading.{Spells, int, bool, string, error, variable, list, parentheses, either, pair, one_atom, arrow, no_arrow}
 use Rattle.vt_show.specs.Steps.{Step, or_else, after, dim_at, letter_length, letter_at, word_at, one, two, list_with, inside_with, choice_with, atom_with, pair_with, arrow_with, type_at, at_end, type_of}
-use Rattle.vt_show.proofs.Signs.{option_map_some, after-read, dim_at-read}
+use Rattle.vt_show.proofs.Signs.{after-read, dim_at-read}
 use Rattle.vt_show.proofs.LetterTexts.{letter_length-read}
 use Rattle.vt_show.proofs.SpelledIsRead.{lettered}
 
@@ -58,9 +58,9 @@ module _ (dims : List (List ℕ)) where
 
   letter_at-read : (text : List ℕ) (found : VType × List ℕ) → letter_at text ≡ Some found → IsFront 2 text found
   letter_at-read text found h =
-      let read = option_map_some (λ n. (Var (take n text), drop n text)) (letter_length text) found h in
-      let letter = letter_length-read text read.0 read.1 in
-      rw (← read.2) (take read.0 text, Var (letter.0 ∷ []), rw letter.1 (variable letter.0), record { same = sym (take-append-drop read.0 text) }, ap Var letter.1)
+      option_and_then_some _ (letter_length text) found h (λ n read is.
+      let letter = letter_length-read text n read in
+      rw (← same_Some _ _ is) (take n text, Var (letter.0 ∷ []), rw letter.1 (variable letter.0), record { same = sym (take-append-drop n text) }, ap Var letter.1))
 
   module _ (read : List ℕ → Step) (sound : (text : List ℕ) (found : VType × List ℕ) → read text ≡ Some found → IsFront 0 text found) where
     list_with-read : (text : List ℕ) (found : VType × List ℕ) → list_with dims read text ≡ Some found → IsFront 2 (91 ∷ text) found

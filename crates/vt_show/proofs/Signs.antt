@@ -18,11 +18,6 @@ pub guarded_some : {A : Type 0} (b : Bool) (o : Option A) (y : A) → cond b o N
 guarded_some true o y h = (refl, h)
 guarded_some false o y h = absurd (none-some y h)
 
--- what an option's map gives
-pub option_map_some : {A B : Type 0} (f : A → B) (o : Option A) (y : B) → option_map f o ≡ Some y → (x : A) × (o ≡ Some x) × (f x ≡ y)
-option_map_some f None y h = absurd (none-some y h)
-option_map_some f (Some x) y h = (x, refl, same_Some _ _ h)
-
 -- a sign that is there is found
 pub after-front : (sign rest : List ℕ) → after sign (sign ++ rest) ≡ Some rest
 after-front [] rest = refl
@@ -129,10 +124,10 @@ name_at-front name rest lacks =
 -- a name that is found stands before a brace
 name_at-read : (text : List ℕ) (found : List ℕ × List ℕ) → name_at text ≡ Some found → text ≡ found.0 ++ 123 ∷ found.1
 name_at-read text found h =
-    let read = option_map_some (λ n. (take n text, drop (n + 1) text)) (position (λ byte. byte == 123) text) found h in
-    let place = position-Some (λ byte. byte == 123) text read.0 0 read.1 in
+    option_and_then_some _ (position (λ byte. byte == 123) text) found h (λ n at is.
+    let place = position-Some (λ byte. byte == 123) text n 0 at in
     let brace = eqb-true _ 123 place.1 in
-    rw (← read.2) (sym (take-append-drop read.0 text) ∙ ap (λ t. take read.0 text ++ t) (drop_more text read.0 0 place.0 ∙ ap (λ b. b ∷ drop (read.0 + 1) text) brace))
+    rw (← same_Some _ _ is) (sym (take-append-drop n text) ∙ ap (λ t. take n text ++ t) (drop_more text n 0 place.0 ∙ ap (λ b. b ∷ drop (n + 1) text) brace)))
 
 -- the dimension of a name before a brace, where names differ and it has no brace
 pub dim_at-front : (dims : List (List ℕ)) (dim : ℕ) (name rest : List ℕ) → AreDistinct dims → slice_get dims dim ≡ Some name → (Contains name 123 → ⊥) → dim_at dims (name ++ 123 ∷ rest) ≡ Some (dim, rest)

@@ -1,5 +1,5 @@
 use Rattle.std.specs.Prelude.{ℕ, zero, suc, ◌+◌, ◌==◌, ◌&&◌, nat_le, Bool, false, not, if◌then◌else◌, List, [], ◌∷◌, take, drop, length, position, codes, Option, Some, None}
-use Rattle.std.specs.Option.{option_map, option_and_then}
+use Rattle.std.specs.Option.{option_and_then}
 use Rattle.std.specs.List.{prefix_len}
 use Rattle.std.specs.Str.{bytes_eq}
 use Rattle.vt_type.specs.declared.head.Head.{Head}
@@ -48,7 +48,9 @@ letter_length (quote ∷ small ∷ text) =
     if quote == 39 && is_small_letter small && not (has_zero text) then Some (2 + prefix_len is_digit text) else None
 
 abbrev pub letter_at : List ℕ → Step
-letter_at text = option_map (λ n. (Var (take n text), drop n text)) (letter_length text)
+letter_at text = do
+  n ← letter_length text
+  Some (Var (take n text), drop n text)
 
 -- a type that is one word or sign
 abbrev pub word_at : List ℕ → Step
@@ -60,7 +62,9 @@ word_at text =
 
 -- the name up to the brace, and what stands after it
 abbrev pub name_at : List ℕ → Option (List ℕ × List ℕ)
-name_at text = option_map (λ n. (take n text, drop (n + 1) text)) (position (λ byte. byte == 123) text)
+name_at text = do
+  n ← position (λ byte. byte == 123) text
+  Some (take n text, drop (n + 1) text)
 
 -- the dimension of that name, and what stands after the brace
 abbrev pub dim_at : List (List ℕ) → List ℕ → Option (ℕ × List ℕ)

@@ -38,8 +38,7 @@ fn renamed(
         }
         VType::Con(head, kids) => {
             let head = *head;
-            // Its arity is what bounds the numbers of its children.
-            let _arity = head.arity();
+            head.bounded();
             let kids = renamed_kids(kids, alloc, 0, way, met)?;
             Ok(VType::Con(head, kids))
         }

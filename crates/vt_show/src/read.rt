@@ -18,8 +18,7 @@ pub fn read_type(alloc: Global, text: &str, tables: &Tables) -> Result<Option<VT
     ensures well_formed { IfOk result (λ read. IfSome read IsWellFormedV) }
     ensures named { IfOk result (λ read. IfSome read (DimsBelow (length tables.now.dims))) }
 {
-    // That the names differ is what makes the reading the only one.
-    let _count = tables.dims.len();
+    tables.dims.distinct();
     match read_whole(alloc, text.as_bytes(), &tables.dims) {
         Ok(lettered) => Ok(Some(by_first_place(alloc, &lettered)?)),
         Err(Miss::NotSpelled) => Ok(None),

@@ -39,8 +39,7 @@ fn renamed(
         }
         Plain::Con(head, kids) => {
             let head = *head;
-            // Its arity is what bounds the numbers of its children.
-            let _arity = head.arity();
+            head.bounded();
             let kids = renamed_kids(kids, alloc, 0, way, paths)?;
             Ok(Plain::Con(head, kids))
         }

@@ -14,7 +14,7 @@ pub returns-in_ok-by_first_place-in-Ok-clause-read :
 returns-in_ok-by_first_place-in-Ok-clause-read c =
     let read = rw c.as_bytes.ensures.value at c.in-Ok.ensures in
     rw c.in_ok-by_first_place-in-Ok.ensures
-    (reading_of-some c.args.tables.now.dims c.len-count.ensures.distinct c.requires.no_brace c.args.text.now c.in-Ok.lettered read)
+    (reading_of-some c.args.tables.now.dims c.distinct.ensures.distinct c.requires.no_brace c.args.text.now c.in-Ok.lettered read)
 
 pub returns-in_ok-by_first_place-in-Ok-clause-well_formed :
     goal.returns-in_ok-by_first_place-in-Ok-clause-well_formed
@@ -33,4 +33,4 @@ returns-in_ok-by_first_place-in-Ok-clause-named c =
 pub returns-in-Err-NotSpelled-clause-read : goal.returns-in-Err-NotSpelled-clause-read
 returns-in-Err-NotSpelled-clause-read c =
     let unread = rw (c.in-Err-NotSpelled.field-0-is, c.as_bytes.ensures.value) at c.in-Err-NotSpelled.ensures in
-    reading_of-none c.args.tables.now.dims c.len-count.ensures.distinct c.requires.no_brace c.args.text.now unread
+    reading_of-none c.args.tables.now.dims c.distinct.ensures.distinct c.requires.no_brace c.args.text.now unread

@@ -9,7 +9,7 @@ use Rattle.vt_type.proofs.canonical.+canonical.Goals as goal
 pub renamed-renamed_kids-requires : goal.renamed-renamed_kids-requires
 renamed-renamed_kids-requires t c =
     let parts = rw c.in-Con.is at c.requires in
-    (search (rules, the_lemmas), (parts.1, omega (arith, parts.0, c.arity-arity.ensures.fits)))
+    (search (rules, the_lemmas), (parts.1, omega (arith, parts.0, c.bounded.ensures)))
 
 pub renamed-returns-in_ok-kids-in-Con-clause-renamed : goal.renamed-returns-in_ok-kids-in-Con-clause-renamed
 renamed-returns-in_ok-kids-in-Con-clause-renamed t c later =
