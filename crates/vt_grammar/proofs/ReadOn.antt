@@ -1,5 +1,6 @@
-use Rattle.std.proofs.Common.{◌≡◌, ℕ, ◌≤◌, List, [], ◌∷◌, ◌++◌, refl, sym, ap, ◌∙◌, arith}
+use Rattle.std.proofs.Common.{◌≡◌, ℕ, ◌≤◌, List, [], ◌∷◌, ◌++◌, refl, sym, ap, subst, ◌∙◌, arith}
 use Rattle.std.specs.Prelude.{Option, Some, None}
+use Rattle.std.proofs.lemmas.Option.{same_Some}
 use Rattle.vt_lex.specs.declared.token.Token.{Token}
 use Rattle.vt_syntax.specs.declared.program.Program.{Program}
 use Rattle.vt_syntax.specs.Spelling.{SpellsIn, Begins, most_depth}
@@ -58,3 +59,11 @@ read-on text ts more program depth p =
     let d = finish-depth r.0 (record { defs = program.defs; main = program.main; depth = depth }) r.2 in
     let n = need_rises text ts more s.middle r.0 s.first s.second in
     record { middle = s.middle; last = r.0; first = s.first; second = s.second; finished = r.2; deep = omega arith }
+
+-- a program that begins with tokens is as deep as is needed after them
+pub needed : (text : List ℕ) (ts : List Token) (s : State) (depth : ℕ)
+    → run text initial ts ≡ Some s → Begins text depth ts → need s ≤ depth
+needed text ts s depth r b =
+    let on = read-on text ts b.0 b.1 b.2 b.3 in
+    let deep : need s ≤ b.2 = subst (λ (u : State). need u ≤ b.2) (sym (same_Some s on.middle (sym r ∙ on.first))) on.deep in
+    omega (arith, deep, b.4)

@@ -1,60 +1,50 @@
 use Rattle.std.proofs.Common.{◌≡◌, ℕ, ◌+◌, ◌<◌, ◌≤◌, inl, inr, List, ◌++◌, length, take, drop, refl, sym, ap, ◌∙◌, arith, append_assoc}
 use Rattle.std.specs.Prelude.{Some, Ok, Err}
 use Rattle.std.proofs.lemmas.List.{take-append-drop, take-take}
+use Rattle.std.proofs.lemmas.Option.{same_Some}
 use Rattle.vt_lex.specs.declared.token.Token.{Token}
 use Rattle.vt_syntax.specs.declared.program.Program.{Program}
 use Rattle.vt_syntax.specs.Spelling.{SpellsIn, Begins, most_depth}
 use Rattle.vt_parse.specs.declared.fault.ParseFault.TheVariants.{Unexpected, TooDeep, Memory}
-use Rattle.vt_grammar.specs.Machine.{need, Finished}
+use Rattle.vt_grammar.specs.Machine.{need, Finished, finish}
 use Rattle.vt_parse.specs.Answer.{IsUnexpected, IsTooDeep}
 use Rattle.vt_parse.specs.Laws.{HasOneProgram, IsAdmittedIfBegun, HasLeastDepth, HasOneAnswer}
 use Rattle.vt_grammar.proofs.Backbone.{has_completion, spelled_is_read}
 use Rattle.vt_grammar.proofs.ReduceLemmas.{finish-depth}
-use Rattle.vt_grammar.proofs.ReadOn.{read-on}
+use Rattle.vt_grammar.proofs.ReadOn.{read-on, needed}
 
 -- The laws of what tokens spell.
 
--- the program of what is finished
-program_of : Finished → Program
+-- the program of what is finished, and what is finished of a program
+abbrev program_of : Finished → Program
 program_of f = record { defs = f.defs; main = f.main }
 
-some-same : (f g : Finished) → Some f ≡ Some g → f ≡ g
-some-same f g e = cc
+abbrev finished : Program → ℕ → Finished
+finished program depth = record { defs = program.defs; main = program.main; depth = depth }
+
+finished-same : (one other : Program) (m n : ℕ) → Some (finished one m) ≡ Some (finished other n) → (one ≡ other) × (m ≡ n)
+finished-same one other m n e =
+    let same = same_Some (finished one m) (finished other n) e in
+    (ap program_of same, ap (λ (f : Finished). f.depth) same)
 
 pub one_program : HasOneProgram
-unfolding program_of
 one_program text tokens one other m n p q =
     let r = spelled_is_read text tokens one.defs one.main m p in
     let s = spelled_is_read text tokens other.defs other.main n q in
-    let same : Some r.0 ≡ Some s.0 = sym r.1 ∙ s.1 in
-    let equal : r.0 ≡ s.0 = cc in
-    let finished = rw (← equal) at s.2 in
-    let both : Some (record { defs = one.defs; main = one.main; depth = m }) ≡ Some (record { defs = other.defs; main = other.main; depth = n }) = sym r.2 ∙ finished in
-    let facts = some-same _ _ both in
-    (ap program_of facts, ap (λ (f : Finished). f.depth) facts)
+    finished-same one other m n (sym r.2 ∙ ap finish (same_Some r.0 s.0 (sym r.1 ∙ s.1)) ∙ s.2)
 
 pub admitted_if_begun : IsAdmittedIfBegun
 admitted_if_begun text tokens program depth p b =
     let r = spelled_is_read text tokens program.defs program.main depth p in
-    let on = read-on text tokens b.0 b.1 b.2 b.3 in
-    let same : Some r.0 ≡ Some on.middle = sym r.1 ∙ on.first in
-    let equal : r.0 ≡ on.middle = cc in
-    let d = finish-depth r.0 (record { defs = program.defs; main = program.main; depth = depth }) r.2 in
-    let needed : need r.0 ≡ need on.middle = ap need equal in
-    omega (arith, on.deep, b.4)
+    let d = finish-depth r.0 (finished program depth) r.2 in
+    let k = needed text tokens r.0 most_depth r.1 b in
+    omega (arith, d, k)
 
 pub least_depth : HasLeastDepth
 least_depth text tokens (most, (more, program, depth, p, h)) =
     let on = read-on text tokens more program depth p in
-    let c = has_completion text tokens on.middle on.first in (
-      need on.middle,
-      (c.0, c.1, need on.middle, c.2, omega arith),
-      λ n b. let other = read-on text tokens b.0 b.1 b.2 b.3 in
-          let same : Some on.middle ≡ Some other.middle = sym on.first ∙ other.first in
-          let equal : on.middle ≡ other.middle = cc in
-          let needed : need on.middle ≡ need other.middle = ap need equal in
-          omega (arith, other.deep, b.4),
-    )
+    let c = has_completion text tokens on.middle on.first in
+    (need on.middle, (c.0, c.1, need on.middle, c.2, omega arith), λ n b. needed text tokens on.middle n on.first b)
 
 -- what begins with more tokens begins with fewer
 begins-fewer : (text : List ℕ) (n : ℕ) (ts us : List Token) → Begins text n (ts ++ us) → Begins text n ts

@@ -9,7 +9,7 @@ use Rattle.vt_parse.specs.Answer.{BeginsNone, SpellsNone, IsUnexpected, IsTooDee
 use Rattle.vt_grammar.specs.States.{IsAfter}
 use Rattle.vt_grammar.proofs.Backbone.{read_is_spelled, has_completion, spelled_is_read}
 use Rattle.vt_grammar.proofs.ReduceLemmas.{finish-depth}
-use Rattle.vt_grammar.proofs.ReadOn.{run-split, run-one, run-onto, reached-begins, read-on}
+use Rattle.vt_grammar.proofs.ReadOn.{run-split, run-one, run-onto, reached-begins, read-on, needed}
 
 -- What the reader knows of the tokens when it stops.
 
@@ -30,11 +30,7 @@ pub too-deep : (text : List ℕ) (ts : List Token) (s : State)
     → run text initial ts ≡ Some s → most_depth < need s
     → (Begins text most_depth ts → ⊥) × BeginsAny text ts
 too-deep text ts s r over = (
-  λ b. absurd (let on = read-on text ts b.0 b.1 b.2 b.3 in
-      let same : Some s ≡ Some on.middle = sym r ∙ on.first in
-      let equal : s ≡ on.middle = cc in
-      let needed : need s ≡ need on.middle = ap need equal in
-      omega (arith, on.deep, b.4)),
+  λ b. let k = needed text ts s most_depth r b in absurd (omega arith),
   let c = has_completion text ts s r in (need s, (c.0, c.1, need s, c.2, omega arith)),
 )
 
