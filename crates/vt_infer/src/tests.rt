@@ -20,13 +20,16 @@ const NOWHERE: Span = Span { start: 0, end: 0 };
 fn sum(alloc: Global) -> Result<CoreProgram, AllocError>
     ensures { IfOk result (λ program. program ≡ alone wrong_sum) }
 {
-    let sign = Core::leaf(NodeId(1), NOWHERE, Form::Const(ConstId::ADD));
-    let one = Core::leaf(NodeId(2), NOWHERE, Form::Literal(Lit::Number(1)));
+    let sign = Core::leaf(alloc, NodeId(1), NOWHERE, Form::Const(ConstId::ADD))?;
+    let one = Core::leaf(alloc, NodeId(2), NOWHERE, Form::Literal(Lit::Number(1)))?;
     let half = Core::app(alloc, NodeId(3), NOWHERE, sign, one)?;
-    let truth = Core::leaf(NodeId(4), NOWHERE, Form::Literal(Lit::Truth(true)));
+    let truth = Core::leaf(alloc, NodeId(4), NOWHERE, Form::Literal(Lit::Truth(true)))?;
     let main = Core::app(alloc, NodeId(5), NOWHERE, half, truth)?;
     let defs = CoreDefs::new(Vec::new(alloc));
-    Ok(CoreProgram { defs, main })
+    Ok(CoreProgram {
+        defs,
+        main: main.into_inner(),
+    })
 }
 
 // The types of `1 + _`.

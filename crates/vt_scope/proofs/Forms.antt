@@ -10,6 +10,8 @@ use Rattle.vt_syntax.specs.declared.expr.ExprForm as form
 use Rattle.vt_syntax.specs.declared.core_expr.Core.{Core}
 use Rattle.vt_syntax.specs.declared.core_expr.Form.{Hole}
 use Rattle.vt_syntax.specs.declared.leaf.Leaf.{Leaf}
+use Rattle.vt_syntax.specs.declared.leaf.Class.TheVariants as class
+use Rattle.vt_syntax.specs.Leaves.{leaf}
 use Rattle.vt_syntax.specs.SurfaceTrees as surface
 use Rattle.vt_syntax.specs.SurfaceTrees.{expr, exprs}
 use Rattle.vt_syntax.specs.CoreTrees.{core, choice_form}
@@ -20,7 +22,7 @@ use Rattle.vt_scope.specs.declared.walk.Walk.{Walk}
 use Rattle.vt_scope.specs.Scopes.{parameter, defined, bound_under}
 use Rattle.vt_scope.specs.Faults.{Event, Dimension, with_dim, events_of, item_events, refused, first_of, first_fault, IsFault}
 use Rattle.vt_scope.specs.Cores as cores
-use Rattle.vt_scope.specs.Cores.{IsCore, AreItems, applied, function, constant, leaf, op_id, pair_id, nil_id, cons_id, cond_id, split_id, bound_form, left_span, up_to}
+use Rattle.vt_scope.specs.Cores.{IsCore, AreItems, applied, function, constant, op_id, pair_id, nil_id, cons_id, cond_id, split_id, bound_form, left_span, up_to}
 use Rattle.vt_scope.specs.Walking.{numbered, noted, Claim, Gives, Tells, Answers, AnswersApplied, AnswersArm, HasCore, HasApplied, HasArm, HasItems, IsApplied, applies, IsArm, arm}
 use Rattle.vt_scope.proofs.EventLists.{IsFault-first, slice_get-Extends}
 use Rattle.vt_scope.proofs.Giving.{Gives-map, Gives-none, Gives-leaf, Gives-numbered, numbered-Gives, Gives-noted, Gives-scope, dimension-Gives, both, later, IsFault-Memory, Tells-map, Tells-last}
@@ -102,10 +104,6 @@ Two P Q s dims js = (ls : List Leaf) × (ks : List Leaf) × (js ≡ ls ++ ks) ×
 pub given_two : (E F : Events) (a b c : Walk) (P Q : List Binder → Claim) → Given E a b P → Given F b c Q → Given (λ s. E s ++ F s) a c (Two P Q)
 given_two E F a b c P Q g h = given_then E F a b c P Q (Two P Q) g h (λ s dims ls ks p q. (ls, ks, refl, p, q))
 
-pub given_map : (E : Events) (a b : Walk) (P Q : List Binder → Claim) → Given E a b P
-    → ((s : List Binder) (dims : List (List ℕ)) (ls : List Leaf) → P s dims ls → Q s dims ls) → Given E a b Q
-given_map E a b P Q g next s here = Gives-map s (E s) a b (P s) (Q s) (g s here) (next s)
-
 -- and a number at the end
 pub given_last : (E : Events) (a b : Walk) (P Q : List Binder → Claim) → Given E a b P
     → ((s : List Binder) (dims : List (List ℕ)) (ls : List Leaf) → P s dims ls → Q s dims ls) → Given E a (numbered b) Q
@@ -133,10 +131,6 @@ pub given_under : (E : Events) (a w : Walk) (binder : Binder) (pushed popped : L
 given_under E a w binder pushed popped P push pop g s here =
     let inner = g (binder ∷ s) (push ∙ ap (λ others. binder ∷ others) here) in
     Gives-scope s (binder ∷ s) pushed popped (E (binder ∷ s)) a w (P (binder ∷ s)) (pop binder s inner.scope) inner
-
-pub refused_under : (E : Events) (a : Walk) (binder : Binder) (pushed : List Binder) (fault : ScopeFault)
-    → pushed ≡ binder ∷ a.scope → Refused E (record a { scope = pushed }) fault → Refused (λ s. E (binder ∷ s)) a fault
-refused_under E a binder pushed fault push g s here = g (binder ∷ s) (push ∙ ap (λ others. binder ∷ others) here)
 
 module _ (constants : List Constant) where
   abbrev pub of : Expr → Events
@@ -259,14 +253,14 @@ module _ (constants : List Constant) where
   pub operation_told : (at : Span) (op : Op) (op_at : Span) (e f : Expr) (a start b w d : Walk) (o c : Core) (r : Result Core ScopeFault)
       → o ≡ constant a.next op_at (op_id op) → start ≡ numbered a
       → Given (of e) start b (λ s. HasApplied constants s at o e start b c)
-      → w ≡ noted b (leaf op_at 3 o.node)
+      → w ≡ noted b (leaf op_at class.Constant o.node)
       → AnswersApplied constants at c f w d r
       → Answers constants (expr at (surface.op_form op op_at e f)) a d r
   operation_told at op op_at e f a start b w d o c r is taken one mark two =
       let P : List Binder → Claim = λ s. HasApplied constants s at (constant a.next op_at (op_id op)) e (numbered a) b c in
-      let Q : List Binder → Claim = λ s dims js. (ls : List Leaf) × (js ≡ ls ++ leaf op_at 3 a.next ∷ []) × HasApplied constants s at (constant a.next op_at (op_id op)) e (numbered a) w c dims ls in
+      let Q : List Binder → Claim = λ s dims js. (ls : List Leaf) × (js ≡ ls ++ leaf op_at class.Constant a.next ∷ []) × HasApplied constants s at (constant a.next op_at (op_id op)) e (numbered a) w c dims ls in
       told_then (of e) (of f) a w d r Q (λ s. HasApplied constants s at c f w d) (λ s. HasCore constants s (expr at (surface.op_form op op_at e f)) a d)
-      (given_noted (of e) a b w (leaf op_at 3 a.next) P Q (mark ∙ ap (λ one. noted b (leaf op_at 3 one.node)) is)
+      (given_noted (of e) a b w (leaf op_at class.Constant a.next) P Q (mark ∙ ap (λ one. noted b (leaf op_at class.Constant one.node)) is)
       (first_given at a start b o (constant a.next op_at (op_id op)) e c is taken one)
       (λ s dims ls p. (ls, refl, subst (λ last. IsApplied constants dims s at (suc a.next) (constant a.next op_at (op_id op)) e c ls last) (ap (λ u. u.next) (sym mark)) p))) two
       (λ s given dims js ks (ls, same, p) q. subst (λ l. IsCore constants dims s a.next (expr at (surface.op_form op op_at e f)) given (l ++ ks) d.next) (sym same)
@@ -274,7 +268,7 @@ module _ (constants : List Constant) where
     where
       rule : (s : List Binder) (dims : List (List ℕ)) (n i k : ℕ) (x y : Core) (ls ks : List Leaf)
           → IsApplied constants dims s at (suc n) (constant n op_at (op_id op)) e x ls i → IsApplied constants dims s at i x f y ks k
-          → IsCore constants dims s n (expr at (surface.op_form op op_at e f)) y (ls ++ leaf op_at 3 n ∷ [] ++ ks) k
+          → IsCore constants dims s n (expr at (surface.op_form op op_at e f)) y (ls ++ leaf op_at class.Constant n ∷ [] ++ ks) k
       rule s dims n i k x y ls ks (applies n1 m1 f1 e1 c1 l1 p) (applies n2 m2 f2 e2 c2 l2 q) = cores.operation s n m1 m2 at op op_at e f c1 c2 l1 l2 p q
 
   pub match_told : (at : Span) (e f g : Expr) (first : List ℕ) (first_at : Span) (rest : List ℕ) (rest_at : Span) (a start b w v d : Walk) (o c h l : Core) (r : Result Core ScopeFault)

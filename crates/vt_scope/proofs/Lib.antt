@@ -4,7 +4,8 @@ pub mod Giving
 pub mod Forms
 pub mod Dimensions
 pub mod Programs
-pub mod Selecting
+pub mod Staying
+mod Selecting
 pub mod Closing
 pub mod Numbering
 pub mod OneCore

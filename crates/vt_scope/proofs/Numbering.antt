@@ -18,7 +18,7 @@ use Rattle.vt_syntax.specs.declared.leaf.Leaf.{Leaf}
 use Rattle.vt_syntax.specs.CoreTrees.{fun_of, app_of, let_of, let_rec_of, choice_of, core, fun_form, app_form, let_form, let_rec_form, choice_form}
 use Rattle.vt_syntax.specs.Selection.{chosen, selected_form, selected_core, selected_core_def, selected_core_program}
 use Rattle.vt_syntax.specs.Programs.{nested, whole, binding}
-use Rattle.vt_syntax.specs.Checking.{numbers_of, Rise, AreDifferent, IsInCheckingOrder}
+use Rattle.vt_syntax.specs.Checking.{numbers_of, Rise, AreDifferent, IsInCheckingOrder, HasDistinctNumbers}
 use Rattle.vt_scope.specs.declared.scope.Binder.{Binder}
 use Rattle.vt_scope.specs.Scopes.{parameter, defined, bound_under}
 use Rattle.vt_scope.specs.Cores as cores
@@ -166,15 +166,19 @@ selected-none-defs (def ∷ defs) =
 differ-rise : (numbers : List ℕ) → Rise numbers → AreDifferent numbers
 differ-rise numbers h i j d lt le same = let below = h i j d lt le in absurd (omega (arith, below, same))
 
-pub numbered_program : (constants : List Constant) (dims : List (List ℕ)) (program : Program) (core : CoreProgram) (leaves : List Leaf) → IsCoreProgram constants dims program core leaves → IsInCheckingOrder core
-numbered_program constants dims program core leaves is = record { rise = rise_of; differ = differ-rise (numbers_of (whole core)) (subst Rise (ap numbers_of all_stays) (rise_of (λ dim. None))) }
-  where
-    rise_of : (taken : ℕ → Option Side) → Rise (numbers_of (whole (selected_core_program taken core)))
-    rise_of taken =
-        rises 1 is.next (numbers_of (whole (selected_core_program taken core)))
-        (nested_between taken constants dims [] 1 program.defs program.main core.defs core.main leaves is.next is.nested)
+module _ (constants : List Constant) (dims : List (List ℕ)) (program : Program) (core : CoreProgram) (leaves : List Leaf) (is : IsCoreProgram constants dims program core leaves) where
+  rise_of : (taken : ℕ → Option Side) → Rise (numbers_of (whole (selected_core_program taken core)))
+  rise_of taken =
+      rises 1 is.next (numbers_of (whole (selected_core_program taken core)))
+      (nested_between taken constants dims [] 1 program.defs program.main core.defs core.main leaves is.next is.nested)
 
-    all_stays : whole (selected_core_program (λ dim. None) core) ≡ whole core
-    all_stays =
-        ap (λ defs. nested defs (selected_core (λ dim. None) core.main)) (selected-none-defs core.defs)
-        ∙ ap (nested core.defs) (selected-none core.main.node core.main.span core.main.form)
+  all_stays : whole (selected_core_program (λ dim. None) core) ≡ whole core
+  all_stays =
+      ap (λ defs. nested defs (selected_core (λ dim. None) core.main)) (selected-none-defs core.defs)
+      ∙ ap (nested core.defs) (selected-none core.main.node core.main.span core.main.form)
+
+  pub distinct_program : HasDistinctNumbers core
+  distinct_program = differ-rise (numbers_of (whole core)) (subst Rise (ap numbers_of all_stays) (rise_of (λ dim. None)))
+
+  pub numbered_program : IsInCheckingOrder core
+  numbered_program = record { rise = rise_of; differ = distinct_program }

@@ -19,6 +19,8 @@ use Rattle.vt_syntax.specs.declared.core_expr.Lit.TheVariants as lit
 use Rattle.vt_syntax.specs.declared.core_program.CoreDef.{CoreDef}
 use Rattle.vt_syntax.specs.declared.core_program.CoreProgram.{CoreProgram}
 use Rattle.vt_syntax.specs.declared.leaf.Leaf.{Leaf}
+use Rattle.vt_syntax.specs.declared.leaf.Class.TheVariants as class
+use Rattle.vt_syntax.specs.Leaves.{leaf}
 use Rattle.vt_syntax.specs.SurfaceTrees as surface
 use Rattle.vt_syntax.specs.SurfaceTrees.{exprs_of}
 use Rattle.vt_syntax.specs.CoreTrees.{core, choice_form}
@@ -27,7 +29,7 @@ use Rattle.vt_scope.specs.declared.scope.Found.{Found}
 use Rattle.vt_scope.specs.Scopes.{parameter, defined, bound_under, found}
 use Rattle.vt_scope.specs.Faults.{Event, Nameless, Dimension, with_dim, dims_after, dims_of, program_events}
 use Rattle.vt_scope.specs.Cores as cores
-use Rattle.vt_scope.specs.Cores.{IsCore, AreItems, AreNested, IsCoreProgram, leaf, applied, function, constant, bound_form, op_id, left_span, up_to, core_def}
+use Rattle.vt_scope.specs.Cores.{IsCore, AreItems, AreNested, IsCoreProgram, applied, function, constant, bound_form, op_id, left_span, up_to, core_def}
 use Rattle.vt_scope.specs.Erased.{HasOneCore}
 use Rattle.vt_scope.proofs.ScopeLists.{any-at}
 use Rattle.vt_scope.proofs.Selecting.{id_of, id_of-is}
@@ -92,13 +94,13 @@ distinct-after dims (Dimension name at ∷ es) h = distinct-after (with_dim dims
 module _ (constants : List Constant) (dims : List (List ℕ)) where
   abbrev name_made : ℕ → Span → List ℕ → Option Found → Translation
   name_made n at name (Some binder) = made (core n at (Name binder.distance)) (leaf at binder.class n ∷ []) (suc n)
-  name_made n at name None = made (constant n at (id_of constants name)) (leaf at 3 n ∷ []) (suc n)
+  name_made n at name None = made (constant n at (id_of constants name)) (leaf at class.Constant n ∷ []) (suc n)
 
   abbrev mutual
     translated : List Binder → ℕ → Span → ExprForm → Translation
-    translated s n at (form.Number value) = made (core n at (Literal (lit.Number value))) (leaf at 0 n ∷ []) (suc n)
-    translated s n at form.Quoted = made (core n at (Literal lit.Quoted)) (leaf at 0 n ∷ []) (suc n)
-    translated s n at (form.Truth value) = made (core n at (Literal (lit.Truth value))) (leaf at 0 n ∷ []) (suc n)
+    translated s n at (form.Number value) = made (core n at (Literal (lit.Number value))) (leaf at class.Literal n ∷ []) (suc n)
+    translated s n at form.Quoted = made (core n at (Literal lit.Quoted)) (leaf at class.Literal n ∷ []) (suc n)
+    translated s n at (form.Truth value) = made (core n at (Literal (lit.Truth value))) (leaf at class.Literal n ∷ []) (suc n)
     translated s n at (form.Name name) = name_made n at name (found s name)
     translated s n at form.Hole = made (core n at Hole) [] (suc n)
     translated s n at (surface.fun_of name name_at by body) = and_then (translated (parameter name ∷ s) n by body) (λ c ls m. made (function m at c) ls (suc m))
@@ -118,7 +120,7 @@ module _ (constants : List Constant) (dims : List (List ℕ)) where
     translated s n at (surface.op_of op op_at by left to right) =
         and_then (translated s (suc n) by left)
         (λ c ls i. and_then (translated s (suc i) to right)
-        (λ d ks k. made (applied k at (applied i at (constant n op_at (op_id op)) c) d) (ls ++ leaf op_at 3 n ∷ [] ++ ks) (suc k)))
+        (λ d ks k. made (applied k at (applied i at (constant n op_at (op_id op)) c) d) (ls ++ leaf op_at class.Constant n ∷ [] ++ ks) (suc k)))
     translated s n at (surface.apply_of by left to right) =
         and_then (translated s n by left) (λ c ls i. and_then (translated s i to right) (λ d ks k. made (applied k at c d) (ls ++ ks) (suc k)))
     translated s n at (surface.pair_of by left to right) =
@@ -143,7 +145,7 @@ module _ (constants : List Constant) (dims : List (List ℕ)) where
       only _ _ _ _ _ _ (cores.truth s n at value) = refl
       only _ _ _ _ _ _ (cores.bound s n at name binder is) = ap (name_made n at name) is
       only _ _ _ _ _ _ (cores.named s n at name id none has) =
-          ap (name_made n at name) none ∙ ap (λ k. made (constant n at k) (leaf at 3 n ∷ []) (suc n)) (id_of-is constants id name (λ other h. table.names_differ id other name has h) has)
+          ap (name_made n at name) none ∙ ap (λ k. made (constant n at k) (leaf at class.Constant n ∷ []) (suc n)) (id_of-is constants id name (λ other h. table.names_differ id other name has h) has)
       only _ _ _ _ _ _ (cores.hole s n at) = refl
       only _ _ _ _ _ _ (cores.fun s n i at name name_at f d ks p) = one_made (translated (parameter name ∷ s) n f.span f.form) (λ c ls m. made (function m at c) ls (suc m)) d ks i (only (parameter name ∷ s) n f d ks i p)
       only _ _ _ _ _ _ (cores.let_in s n i k at recursive name name_at f g d h ks js p q) =
@@ -158,7 +160,7 @@ module _ (constants : List Constant) (dims : List (List ℕ)) where
           (λ c ls i d ks j h js k. made (applied (suc (suc k)) at (applied j at (applied i at (constant n at 17) c) d) (function (suc k) (up_to first_at at) (function k (up_to first_at at) h))) (ls ++ ks ++ js) (suc (suc (suc k)))) x y z ks js is i j k
           (only s (suc n) f x ks i p) (only s (suc i) g y js j q) (only (parameter rest ∷ parameter first ∷ s) (suc j) h z is k r)
       only _ _ _ _ _ _ (cores.operation s n i k at op op_at f g x y ks js p q) =
-          two_made (translated s (suc n) f.span f.form) (λ n. translated s n g.span g.form) (λ i. suc i) (λ c ls i d ks k. made (applied k at (applied i at (constant n op_at (op_id op)) c) d) (ls ++ leaf op_at 3 n ∷ [] ++ ks) (suc k)) x y ks js i k
+          two_made (translated s (suc n) f.span f.form) (λ n. translated s n g.span g.form) (λ i. suc i) (λ c ls i d ks k. made (applied k at (applied i at (constant n op_at (op_id op)) c) d) (ls ++ leaf op_at class.Constant n ∷ [] ++ ks) (suc k)) x y ks js i k
           (only s (suc n) f x ks i p) (only s (suc i) g y js k q)
       only _ _ _ _ _ _ (cores.apply s n i k at f g x y ks js p q) = two_made (translated s n f.span f.form) (λ n. translated s n g.span g.form) (λ i. i) (λ c ls i d ks k. made (applied k at c d) (ls ++ ks) (suc k)) x y ks js i k (only s n f x ks i p) (only s i g y js k q)
       only _ _ _ _ _ _ (cores.pair s n i k at f g x y ks js p q) =

@@ -2,6 +2,7 @@ use Rattle.std.proofs.Common.{◌≡◌, ℕ, zero, suc, ◌+◌, ◌<◌, ◌�
 use Rattle.std.specs.List.{list_any}
 use Rattle.std.specs.Option.{option_map}
 use Rattle.std.specs.Str.{bytes_eq}
+use Rattle.std.proofs.lemmas.Bool.{or_right}
 use Rattle.std.proofs.lemmas.Option.{none-some, same_Some}
 use Rattle.std.proofs.lemmas.Bool.Decides.{nat_tests}
 use Rattle.std.proofs.lemmas.Slice.Eq.{bytes_eq-Decides}
@@ -33,17 +34,13 @@ found_within (x ∷ s) name binder h = by (bytes_eq x.name name) (found s name) 
         let more : suc one.distance ≡ binder.distance = ap (λ u. u.distance) (same_Some _ binder k) in
         omega (arith, before, more)
 
-or-true : (b other : Bool) → other ≡ true → (b || other) ≡ true
-or-true true other h = refl
-or-true false other h = h
-
 -- a constant of this name
 has-constant : (constants : List Constant) (id : ℕ) (name : List ℕ) → HasName constants id name → is_constant constants name ≡ true
 has-constant [] id name has = absurd (none-some (Some name) has)
 has-constant (constant ∷ constants) zero name has =
     let own : is_written name constant.name ≡ true = subst (λ n. is_written name n ≡ true) (sym (same_Some constant.name (Some name) has)) ((bytes_eq-Decides name name).1 refl) in
     ap (λ b. b || is_constant constants name) own
-has-constant (constant ∷ constants) (suc id) name has = or-true (is_written name constant.name) (is_constant constants name) (has-constant constants id name has)
+has-constant (constant ∷ constants) (suc id) name has = or_right (is_written name constant.name) (is_constant constants name) (has-constant constants id name has)
 
 written-is : (name : List ℕ) (own : Option (List ℕ)) → is_written name own ≡ true → own ≡ Some name
 written-is name (Some text) h = ap Some ((bytes_eq-Decides text name).0 h)
@@ -78,7 +75,7 @@ module _ (constants : List Constant) (s : List Binder) (at : Span) (name : List 
 pub any-at : (dims : List (List ℕ)) (n : ℕ) (name : List ℕ) → slice_get dims n ≡ Some name → list_any (bytes_eq name) dims ≡ true
 any-at [] n name h = absurd (none-some name h)
 any-at (own ∷ dims) zero name h = ap (λ b. b || list_any (bytes_eq name) dims) ((bytes_eq-Decides name own).1 (sym (same_Some own name h)))
-any-at (own ∷ dims) (suc n) name h = or-true (bytes_eq name own) (list_any (bytes_eq name) dims) (any-at dims n name h)
+any-at (own ∷ dims) (suc n) name h = or_right (bytes_eq name own) (list_any (bytes_eq name) dims) (any-at dims n name h)
 
 none-any : (dims : List (List ℕ)) (name : List ℕ) → ((n : ℕ) → slice_get dims n ≡ Some name → ⊥) → list_any (bytes_eq name) dims ≡ false
 none-any [] name none = refl

@@ -15,18 +15,21 @@ use Rattle.vt_syntax.specs.declared.core_expr.Core.{Core}
 use Rattle.vt_syntax.specs.declared.core_expr.Form.{Form, Literal, Name, Const, Hole}
 use Rattle.vt_syntax.specs.declared.core_expr.Lit.TheVariants as lit
 use Rattle.vt_syntax.specs.declared.core_program.CoreDef.{CoreDef}
+use Rattle.vt_syntax.specs.declared.core_program.CoreProgram.{CoreProgram}
+use Rattle.vt_syntax.specs.declared.program.Program.{Program}
 use Rattle.vt_syntax.specs.declared.leaf.Leaf.{Leaf}
 use Rattle.vt_syntax.specs.SurfaceTrees as surface
 use Rattle.vt_syntax.specs.SurfaceTrees.{expr, exprs_of}
 use Rattle.vt_syntax.specs.CoreTrees.{fun_of, app_of, let_of, let_rec_of, choice_of, core, choice_form}
-use Rattle.vt_syntax.specs.Selection.{chosen, selected_expr, selected_exprs, selected_def, selected_program, selected_form, selected_core, selected_core_def}
+use Rattle.vt_syntax.specs.Selection.{chosen, selected_expr, selected_exprs, selected_def, selected_program, selected_form, selected_core, selected_core_def, selected_core_program}
 use Rattle.vt_scope.specs.declared.scope.Binder.{Binder}
 use Rattle.vt_scope.specs.declared.scope.Found.{Found}
 use Rattle.vt_scope.specs.Scopes.{parameter, defined, bound_under, found, is_written}
 use Rattle.vt_scope.specs.Faults.{dims_of}
 use Rattle.vt_scope.specs.Cores as cores
 use Rattle.vt_scope.specs.Cores.{IsCore, AreItems, AreNested, IsCoreProgram, op_id}
-use Rattle.vt_scope.specs.Erased.{Erased, Literally, Named, Constantly, Hollow, Function, Applied, Bound, Looped, Chosen, dim_name, erased, erased_def, ErasedDef, ErasedProgram, SelectionCommutes}
+use Rattle.vt_scope.specs.Erased.{Erased, Literally, Named, Constantly, Hollow, Function, Applied, Bound, Looped, Chosen, dim_name, erased, erased_def, ErasedDef, ErasedProgram, erased_program, SelectionCommutes}
+use Rattle.vt_scope.proofs.Staying.{stays-program}
 
 -- A core with its numbers and its spans set aside can be had from the program at once.
 
@@ -255,9 +258,19 @@ module _ (taken : List ℕ → Option Side) where
 made_program : List ErasedDef → Erased → ErasedProgram
 made_program defs main = record { defs = defs; main = main }
 
-pub commutes : SelectionCommutes
+agrees : (constants : List Constant) (taken : List ℕ → Option Side) (program : Program) (core selected : CoreProgram) (leaves others : List Leaf)
+    → IsTable constants
+    → IsCoreProgram constants (dims_of program) program core leaves
+    → IsCoreProgram constants (dims_of (selected_program taken program)) (selected_program taken program) selected others
+    → erased_program (dims_of program) (selected_core_program (λ dim. taken (dim_name (dims_of program) dim)) core)
+    ≡ erased_program (dims_of (selected_program taken program)) selected
 unfolding made_program
-commutes constants taken program core selected leaves others table p q =
+agrees constants taken program core selected leaves others table p q =
     let both = nested-commutes taken constants table (dims_of program) (dims_of (selected_program taken program)) [] 1 1 program.defs program.main core.defs selected.defs core.main selected.main leaves others p.next q.next p.nested q.nested in
     ap (λ defs. made_program defs (erased (dims_of program) (selected_core (by_name taken (dims_of program)) core.main).form)) both.0
     ∙ ap (made_program (map (erased_def (dims_of (selected_program taken program))) selected.defs)) both.1
+
+pub commutes : SelectionCommutes
+commutes constants taken program core leaves table is =
+    let (selected, others, stays) = stays-program constants taken program core leaves is in
+    (selected, others, stays, agrees constants taken program core selected leaves others table is stays)

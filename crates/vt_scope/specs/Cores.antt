@@ -14,6 +14,8 @@ use Rattle.vt_syntax.specs.declared.core_expr.Lit.TheVariants as lit
 use Rattle.vt_syntax.specs.declared.core_program.CoreDef.{CoreDef}
 use Rattle.vt_syntax.specs.declared.core_program.CoreProgram.{CoreProgram}
 use Rattle.vt_syntax.specs.declared.leaf.Leaf.{Leaf}
+use Rattle.vt_syntax.specs.declared.leaf.Class.TheVariants as class
+use Rattle.vt_syntax.specs.Leaves.{leaf}
 use Rattle.vt_syntax.specs.SurfaceTrees as surface
 use Rattle.vt_syntax.specs.SurfaceTrees.{expr, exprs, exprs_of}
 use Rattle.vt_syntax.specs.CoreTrees.{core, fun_form, app_form, let_form, let_rec_form, choice_form}
@@ -56,10 +58,6 @@ split_id = 17
 abbrev pub HasImplied : List Constant → Type 0
 HasImplied constants = 18 ≤ length constants
 
--- a leaf, from its class and its number
-abbrev pub leaf : Span → ℕ → ℕ → Leaf
-leaf at class node = record { span = at; class = class; node = node }
-
 -- one expression applied to another, and a function, under a number and a span
 abbrev pub applied : ℕ → Span → Core → Core → Core
 applied node at function argument = core node at (app_form function argument)
@@ -90,17 +88,17 @@ left_span whole (exprs_of at first rest) = up_to at whole
 mutual
   pub data IsCore (constants : List Constant) (dims : List (List ℕ)) : List Binder → ℕ → Expr → Core → List Leaf → ℕ → Type 0 where
     number : (s : List Binder) (n : ℕ) (at : Span) (value : ℕ)
-        → IsCore constants dims s n (expr at (form.Number value)) (core n at (Literal (lit.Number value))) (leaf at 0 n ∷ []) (suc n)
+        → IsCore constants dims s n (expr at (form.Number value)) (core n at (Literal (lit.Number value))) (leaf at class.Literal n ∷ []) (suc n)
     quoted : (s : List Binder) (n : ℕ) (at : Span)
-        → IsCore constants dims s n (expr at form.Quoted) (core n at (Literal lit.Quoted)) (leaf at 0 n ∷ []) (suc n)
+        → IsCore constants dims s n (expr at form.Quoted) (core n at (Literal lit.Quoted)) (leaf at class.Literal n ∷ []) (suc n)
     truth : (s : List Binder) (n : ℕ) (at : Span) (value : Bool)
-        → IsCore constants dims s n (expr at (form.Truth value)) (core n at (Literal (lit.Truth value))) (leaf at 0 n ∷ []) (suc n)
+        → IsCore constants dims s n (expr at (form.Truth value)) (core n at (Literal (lit.Truth value))) (leaf at class.Literal n ∷ []) (suc n)
     bound : (s : List Binder) (n : ℕ) (at : Span) (name : List ℕ) (binder : Found)
         → found s name ≡ Some binder
         → IsCore constants dims s n (expr at (form.Name name)) (core n at (Name binder.distance)) (leaf at binder.class n ∷ []) (suc n)
     named : (s : List Binder) (n : ℕ) (at : Span) (name : List ℕ) (id : ℕ)
         → found s name ≡ None → HasName constants id name
-        → IsCore constants dims s n (expr at (form.Name name)) (constant n at id) (leaf at 3 n ∷ []) (suc n)
+        → IsCore constants dims s n (expr at (form.Name name)) (constant n at id) (leaf at class.Constant n ∷ []) (suc n)
     hole : (s : List Binder) (n : ℕ) (at : Span)
         → IsCore constants dims s n (expr at form.Hole) (core n at Hole) [] (suc n)
     fun : (s : List Binder) (n m : ℕ) (at : Span) (name : List ℕ) (name_at : Span) (e : Expr) (c : Core) (ls : List Leaf)
@@ -124,7 +122,7 @@ mutual
     operation : (s : List Binder) (n i k : ℕ) (at : Span) (op : Op) (op_at : Span) (e f : Expr) (c d : Core) (ls ks : List Leaf)
         → IsCore constants dims s (suc n) e c ls i → IsCore constants dims s (suc i) f d ks k
         → IsCore constants dims s n (expr at (surface.op_form op op_at e f))
-        (applied k at (applied i at (constant n op_at (op_id op)) c) d) (ls ++ leaf op_at 3 n ∷ [] ++ ks) (suc k)
+        (applied k at (applied i at (constant n op_at (op_id op)) c) d) (ls ++ leaf op_at class.Constant n ∷ [] ++ ks) (suc k)
     apply : (s : List Binder) (n i k : ℕ) (at : Span) (e f : Expr) (c d : Core) (ls ks : List Leaf)
         → IsCore constants dims s n e c ls i → IsCore constants dims s i f d ks k
         → IsCore constants dims s n (expr at (surface.apply_form e f)) (applied k at c d) (ls ++ ks) (suc k)

@@ -66,13 +66,15 @@ HasOneCore =
     → IsCoreProgram constants (dims_of program) program other others
     → (one ≡ other) × (leaves ≡ others)
 
--- It is the same to select from a program and then take its core, and to take its core and then select
--- from that, each core over its own dimensions: they differ in numbers and spans alone.
+-- A program that has a core has one whatever is selected from it, and it is the same to select from a
+-- program and then take its core, and to take its core and then select from that, each core over its own
+-- dimensions: they differ in numbers and spans alone.
 abbrev pub SelectionCommutes : Type 0
 SelectionCommutes =
-    (constants : List Constant) (taken : List ℕ → Option Side) (program : Program) (core selected : CoreProgram) (leaves others : List Leaf)
+    (constants : List Constant) (taken : List ℕ → Option Side) (program : Program) (core : CoreProgram) (leaves : List Leaf)
     → IsTable constants
     → IsCoreProgram constants (dims_of program) program core leaves
-    → IsCoreProgram constants (dims_of (selected_program taken program)) (selected_program taken program) selected others
-    → erased_program (dims_of program) (selected_core_program (λ dim. taken (dim_name (dims_of program) dim)) core)
-    ≡ erased_program (dims_of (selected_program taken program)) selected
+    → (selected : CoreProgram) × (others : List Leaf)
+    × IsCoreProgram constants (dims_of (selected_program taken program)) (selected_program taken program) selected others
+    × (erased_program (dims_of program) (selected_core_program (λ dim. taken (dim_name (dims_of program) dim)) core)
+    ≡ erased_program (dims_of (selected_program taken program)) selected)

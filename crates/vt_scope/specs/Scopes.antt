@@ -3,6 +3,7 @@ use Rattle.std.specs.List.{list_any}
 use Rattle.std.specs.Option.{option_map}
 use Rattle.std.specs.Str.{bytes_eq}
 use Rattle.vt_type.specs.Constants.{Constant}
+use Rattle.vt_syntax.specs.declared.leaf.Class.TheVariants as class
 use Rattle.vt_scope.specs.declared.scope.Binder.{Binder}
 use Rattle.vt_scope.specs.declared.scope.Found.{Found}
 
@@ -11,11 +12,11 @@ use Rattle.vt_scope.specs.declared.scope.Found.{Found}
 
 -- a name that `fun` or an arm of `match` binds
 abbrev pub parameter : List ℕ → Binder
-parameter name = record { name = name; class = 1 }
+parameter name = record { name = name; class = class.Parameter }
 
 -- a name that `let` or `def` binds
 abbrev pub defined : List ℕ → Binder
-defined name = record { name = name; class = 2 }
+defined name = record { name = name; class = class.Defined }
 
 -- where the bound expression stands: under its own name where that is recursive
 abbrev pub bound_under : Bool → List ℕ → List Binder → List Binder

@@ -1,17 +1,18 @@
 //! The core of an expression: a walk from left to right, which is the order of the text and, but for
-//! the nodes above what was walked over, that of the numbers.
+//! the nodes above what was walked over, that of the numbers. Each function takes the tree first, since
+//! the recursion goes down in it.
 ghost use Rattle.std.specs.Prelude.{◌≡◌, MatchResult};
 ghost use Rattle.vt_syntax.specs.CoreTrees.{core};
 ghost use Rattle.vt_scope.specs.Cores.{bound_form, op_id, left_span};
 ghost use Rattle.vt_scope.specs.Walking.{Answers, AnswersUnder, AnswersBound, AnswersApplied, AnswersArm, AnswersItems};
 
 use crate::ScopeFault;
-use crate::scope::{DEFINED, PARAMETER};
-use crate::walk::{OPERATOR, Walk};
+use crate::walk::Walk;
+use sqlite_items::Boxed;
 use std::alloc::Global;
 use vt_dec::NodeId;
 use vt_lex::{Span, Word};
-use vt_syntax::{Core, Expr, ExprForm, Exprs, Form, Lit, Op};
+use vt_syntax::{Class, Core, Expr, ExprForm, Exprs, Form, Lit, Op};
 use vt_type::{ConstId, Constants};
 
 /// The core of an expression, or the first place in it that is refused.
@@ -21,18 +22,18 @@ pub fn expression(
     alloc: Global,
     constants: &Constants,
     walk: &mut Walk,
-) -> Result<Core, ScopeFault>
+) -> Result<Boxed<Core>, ScopeFault>
     ensures { Answers constants.now expr.now walk.old walk.new result }
 {
     let at = expr.span;
     match &expr.form {
-        ExprForm::Number(value) => walk.literal(at, Lit::Number(*value)),
-        ExprForm::Quoted => walk.literal(at, Lit::Quoted),
-        ExprForm::Truth(value) => walk.literal(at, Lit::Truth(*value)),
-        ExprForm::Name(name) => walk.name(constants, at, name),
-        ExprForm::Hole => walk.part(at, Form::Hole),
+        ExprForm::Number(value) => walk.literal(alloc, at, Lit::Number(*value)),
+        ExprForm::Quoted => walk.literal(alloc, at, Lit::Quoted),
+        ExprForm::Truth(value) => walk.literal(alloc, at, Lit::Truth(*value)),
+        ExprForm::Name(name) => walk.name(alloc, constants, at, name),
+        ExprForm::Hole => walk.part(alloc, at, Form::Hole),
         ExprForm::Fun(name, _, body) => {
-            let body = under(body.get(), alloc, constants, walk, name, PARAMETER)?;
+            let body = under(body.get(), alloc, constants, walk, name, Class::Parameter)?;
             walk.function(alloc, at, body)
         }
         ExprForm::Let {
@@ -44,11 +45,11 @@ pub fn expression(
         } => {
             let bound = bound_part(bound.get(), alloc, constants, walk, name, *recursive)?;
             let node = walk.number()?;
-            let body = under(body.get(), alloc, constants, walk, name, DEFINED)?;
+            let body = under(body.get(), alloc, constants, walk, name, Class::Defined)?;
             let_core(alloc, node, at, *recursive, name, *name_span, bound, body)
         }
         ExprForm::If(condition, then, otherwise) => {
-            let cond = walk.implied(at, ConstId::COND)?;
+            let cond = walk.implied(alloc, at, ConstId::COND)?;
             let cond = argument(condition.get(), alloc, constants, walk, at, cond)?;
             let cond = argument(then.get(), alloc, constants, walk, at, cond)?;
             argument(otherwise.get(), alloc, constants, walk, at, cond)
@@ -62,7 +63,7 @@ pub fn expression(
             rest_span: _,
             cell,
         } => {
-            let split = walk.implied(at, ConstId::SPLIT)?;
+            let split = walk.implied(alloc, at, ConstId::SPLIT)?;
             let split = argument(list.get(), alloc, constants, walk, at, split)?;
             let split = argument(empty.get(), alloc, constants, walk, at, split)?;
             let here = Span {
@@ -73,10 +74,10 @@ pub fn expression(
             walk.applied(alloc, at, split, cell)
         }
         ExprForm::Op(op, op_span, left, right) => {
-            let sign = walk.part(*op_span, Form::Const(constant_of(*op)))?;
-            let node = sign.node;
+            let sign = walk.part(alloc, *op_span, Form::Const(constant_of(*op)))?;
+            let node = sign.get().node;
             let half = argument(left.get(), alloc, constants, walk, at, sign)?;
-            walk.note(*op_span, OPERATOR, node)?;
+            walk.note(*op_span, Class::Constant, node)?;
             argument(right.get(), alloc, constants, walk, at, half)
         }
         ExprForm::Apply(function, operand) => {
@@ -84,7 +85,7 @@ pub fn expression(
             argument(operand.get(), alloc, constants, walk, at, function)
         }
         ExprForm::Pair(left, right) => {
-            let pair = walk.implied(at, ConstId::PAIR)?;
+            let pair = walk.implied(alloc, at, ConstId::PAIR)?;
             let pair = argument(left.get(), alloc, constants, walk, at, pair)?;
             argument(right.get(), alloc, constants, walk, at, pair)
         }
@@ -106,8 +107,8 @@ fn under(
     constants: &Constants,
     walk: &mut Walk,
     name: &Word,
-    class: u8,
-) -> Result<Core, ScopeFault>
+    class: Class,
+) -> Result<Boxed<Core>, ScopeFault>
     ensures { AnswersUnder constants.now (record { name = name.now; class = class }) body.now walk.old walk.new result }
 {
     walk.scope.push(alloc, name, class)?;
@@ -124,8 +125,8 @@ fn argument(
     constants: &Constants,
     walk: &mut Walk,
     at: Span,
-    function: Core,
-) -> Result<Core, ScopeFault>
+    function: Boxed<Core>,
+) -> Result<Boxed<Core>, ScopeFault>
     ensures { AnswersApplied constants.now at function operand.now walk.old walk.new result }
 {
     let operand = expression(operand, alloc, constants, walk)?;
@@ -141,11 +142,11 @@ pub fn bound_part(
     walk: &mut Walk,
     name: &Word,
     recursive: bool,
-) -> Result<Core, ScopeFault>
+) -> Result<Boxed<Core>, ScopeFault>
     ensures { AnswersBound constants.now recursive name.now bound.now walk.old walk.new result }
 {
     if recursive {
-        under(bound, alloc, constants, walk, name, DEFINED)
+        under(bound, alloc, constants, walk, name, Class::Defined)
     } else {
         expression(bound, alloc, constants, walk)
     }
@@ -161,11 +162,11 @@ fn arm(
     here: Span,
     first: &Word,
     rest: &Word,
-) -> Result<Core, ScopeFault>
+) -> Result<Boxed<Core>, ScopeFault>
     ensures { AnswersArm constants.now first.now rest.now here cell.now walk.old walk.new result }
 {
-    walk.scope.push(alloc, first, PARAMETER)?;
-    let body = under(cell, alloc, constants, walk, rest, PARAMETER)?;
+    walk.scope.push(alloc, first, Class::Parameter)?;
+    let body = under(cell, alloc, constants, walk, rest, Class::Parameter)?;
     walk.scope.pop();
     let of_rest = walk.function(alloc, here, body)?;
     walk.function(alloc, here, of_rest)
@@ -180,13 +181,13 @@ fn list(
     walk: &mut Walk,
     whole: Span,
     here: Span,
-) -> Result<Core, ScopeFault>
+) -> Result<Boxed<Core>, ScopeFault>
     ensures { AnswersItems constants.now whole here items.now walk.old walk.new result }
 {
     match items {
-        Exprs::Nil => walk.implied(here, ConstId::NIL),
+        Exprs::Nil => walk.implied(alloc, here, ConstId::NIL),
         Exprs::More(first, rest) => {
-            let cons = walk.implied(whole, ConstId::CONS)?;
+            let cons = walk.implied(alloc, whole, ConstId::CONS)?;
             let cons = argument(first.get(), alloc, constants, walk, here, cons)?;
             let left = left_of(rest.get(), whole);
             let rest = list(rest.get(), alloc, constants, walk, whole, left)?;
@@ -202,9 +203,9 @@ fn let_core(
     recursive: bool,
     name: &Word,
     name_span: Span,
-    bound: Core,
-    body: Core,
-) -> Result<Core, ScopeFault>
+    bound: Boxed<Core>,
+    body: Boxed<Core>,
+) -> Result<Boxed<Core>, ScopeFault>
     ensures { MatchResult result (λ c. c ≡ core node at (bound_form recursive name.now name_span bound body)) (λ fault. fault ≡ ScopeFault.Memory) }
 {
     if recursive {

@@ -1,23 +1,23 @@
 //! The core of a program.
 ghost use Rattle.std.specs.Prelude.{◌≡◌, ℕ, ◌≤◌, [], None, length, IfOk, MatchResult};
 ghost use Rattle.vt_syntax.specs.Scoping.{IsClosed};
-ghost use Rattle.vt_syntax.specs.Checking.{IsInCheckingOrder};
+ghost use Rattle.vt_syntax.specs.Checking.{IsInCheckingOrder, HasDistinctNumbers};
 ghost use Rattle.vt_scope.specs.Faults.{program_events, dims_of, first_fault, IsFault};
 ghost use Rattle.vt_scope.specs.Cores.{HasImplied, IsCoreProgram};
 ghost use Rattle.vt_scope.specs.Definitions.{AnswersDef, AnswersDefs};
 
 use crate::ScopeFault;
 use crate::expressions::{bound_part, expression};
-use crate::scope::{DEFINED, Scope};
+use crate::scope::Scope;
 use crate::walk::Walk;
 use sqlite_items::Items;
 use std::alloc::Global;
-use vt_syntax::{CoreDef, CoreDefs, CoreProgram, Def, Leaves, Program};
+use vt_syntax::{Class, CoreDef, CoreDefs, CoreProgram, Def, Leaves, Program};
 use vt_type::{Constants, Names, Tables};
 
 /// A program in the core, the names that its numbers stand for, and the leaves of all alternatives by
 /// their place in the text.
-#[derive(Debug, Drop)]
+#[derive(Drop)]
 pub struct Resolved {
     pub core: CoreProgram,
     pub tables: Tables,
@@ -42,6 +42,7 @@ pub fn resolve(
     // A table that has the constants that no text writes, as that of the language does.
     ensures closed { IfOk result (λ r. HasImplied constants.now → IsClosed (length constants.now) (length r.tables.dims) r.core) }
     ensures numbered { IfOk result (λ r. IsInCheckingOrder r.core) }
+    ensures distinct { IfOk result (λ r. HasDistinctNumbers r.core) }
 {
     let mut walk = Walk {
         next: 1,
@@ -54,7 +55,10 @@ pub fn resolve(
     let leaves = Vec::from_slice(alloc, walk.leaves.as_slice())?;
     let Walk { dims, .. } = walk;
     Ok(Resolved {
-        core: CoreProgram { defs, main },
+        core: CoreProgram {
+            defs,
+            main: main.into_inner(),
+        },
         tables: Tables {
             dims,
             datas: Names::new(alloc),
@@ -90,13 +94,13 @@ fn definition(
     let recursive = def.recursive;
     let body = bound_part(&def.body, alloc, constants, walk, &def.name, recursive)?;
     let node = walk.number()?;
-    walk.scope.push(alloc, &def.name, DEFINED)?;
+    walk.scope.push(alloc, &def.name, Class::Defined)?;
     let name = def.name.copied(alloc)?;
     Ok(CoreDef {
         name,
         name_span: def.name_span,
         node,
         recursive,
-        body,
+        body: body.into_inner(),
     })
 }

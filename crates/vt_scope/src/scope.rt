@@ -6,29 +6,24 @@ use crate::ScopeFault;
 use std::alloc::{AllocFailed, Global};
 use std::marker::Model;
 use vt_lex::Word;
-
-/// The class of what `fun` or an arm of `match` binds.
-pub const PARAMETER: u8 = 1;
-
-/// The class of what `let` or `def` binds.
-pub const DEFINED: u8 = 2;
+use vt_syntax::Class;
 
 /// A name that is bound, with the class of the leaves that stand for it.
-#[derive(Debug, Drop)]
+#[derive(Drop)]
 pub struct Binder {
     pub name: Word,
-    pub class: u8,
+    pub class: Class,
 }
 
 /// A binder from a place that it is seen from: how many binders stand between, and its class.
 #[derive(Clone, Copy, Debug)]
 pub struct Found {
     pub distance: u32,
-    pub class: u8,
+    pub class: Class,
 }
 
 /// The binders around a place. Contracts see the newest one first.
-#[derive(Debug, Drop)]
+#[derive(Drop)]
 pub struct Scope {
     binders: Vec<Binder>,
 }
@@ -57,7 +52,7 @@ impl Scope {
         }
     }
 
-    pub fn push(&mut self, alloc: Global, name: &Word, class: u8) -> Result<(), ScopeFault>
+    pub fn push(&mut self, alloc: Global, name: &Word, class: Class) -> Result<(), ScopeFault>
         ensures { MatchResult result (λ _. self.new ≡ record { name = name.now; class = class } ∷ self.old) (λ fault. fault ≡ ScopeFault.Memory) }
     {
         if self.binders.len() >= u32::MAX as usize {

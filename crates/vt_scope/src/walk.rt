@@ -5,30 +5,25 @@ ghost use Rattle.vt_syntax.specs.SurfaceTrees.{expr};
 ghost use Rattle.vt_syntax.specs.CoreTrees.{core, choice_form};
 ghost use Rattle.vt_scope.specs.declared.fault.ScopeFault.{ScopeFault};
 ghost use Rattle.vt_scope.specs.Faults.{Dimension, with_dim, refused, first_fault, IsFault};
-ghost use Rattle.vt_scope.specs.Cores.{leaf, applied, function, constant};
+ghost use Rattle.vt_syntax.specs.Leaves.{leaf};
+ghost use Rattle.vt_scope.specs.Cores.{applied, function, constant};
 ghost use Rattle.vt_scope.specs.Walking.{numbered, noted, Answers};
 
 use crate::ScopeFault;
 use crate::scope::Scope;
-use sqlite_items::Items;
+use sqlite_items::{Boxed, Items};
 use std::alloc::Global;
 use vt_dec::{Dim, NodeId};
 use vt_lex::{Span, Word};
-use vt_syntax::{Core, Form, Leaf, Lit};
+use vt_syntax::{Class, Core, Form, Leaf, Lit};
 use vt_type::{ConstId, Constants, Names};
-
-/// The class of a literal.
-const LITERAL: u8 = 0;
-
-/// The class of a constant's name or an operator.
-pub const OPERATOR: u8 = 3;
 
 /// How many dimensions a program may have.
 const MOST_DIMENSIONS: usize = 64;
 
 /// What a walk over a program knows: the next free number, the binders around the place that it has
 /// come to, the dimensions that it has met, and the leaves before this place.
-#[derive(Debug, Drop)]
+#[derive(Drop)]
 pub struct Walk {
     pub next: u32,
     pub scope: Scope,
@@ -52,57 +47,82 @@ impl Walk {
     }
 
     /// Notes a leaf.
-    pub fn note(&mut self, span: Span, class: u8, node: NodeId) -> Result<(), ScopeFault>
+    pub fn note(&mut self, span: Span, class: Class, node: NodeId) -> Result<(), ScopeFault>
         ensures { MatchResult result (λ _. self.new ≡ noted self.old (leaf span class node)) (λ fault. fault ≡ ScopeFault.Memory) }
     {
-        self.leaves.push(Leaf { span, class, node })?;
+        self.leaves.push(Leaf {
+            span,
+            class: class.number(),
+            node,
+        })?;
         Ok(())
     }
 
     /// A core expression without parts.
-    pub fn part(&mut self, span: Span, form: Form) -> Result<Core, ScopeFault>
+    pub fn part(&mut self, alloc: Global, span: Span, form: Form) -> Result<Boxed<Core>, ScopeFault>
         ensures { MatchResult result (λ c. (c ≡ core self.old.next span form) × (self.new ≡ numbered self.old)) (λ fault. fault ≡ ScopeFault.Memory) }
     {
         let node = self.number()?;
-        Ok(Core::leaf(node, span, form))
+        Ok(Core::leaf(alloc, node, span, form)?)
     }
 
     /// A constant that no text writes.
-    pub fn implied(&mut self, span: Span, id: ConstId) -> Result<Core, ScopeFault>
+    pub fn implied(
+        &mut self,
+        alloc: Global,
+        span: Span,
+        id: ConstId,
+    ) -> Result<Boxed<Core>, ScopeFault>
         ensures { MatchResult result (λ c. (c ≡ constant self.old.next span id) × (self.new ≡ numbered self.old)) (λ fault. fault ≡ ScopeFault.Memory) }
     {
-        self.part(span, Form::Const(id))
+        self.part(alloc, span, Form::Const(id))
     }
 
     /// A core expression without parts that is a leaf.
-    pub fn leaf(&mut self, span: Span, class: u8, form: Form) -> Result<Core, ScopeFault>
+    pub fn leaf(
+        &mut self,
+        alloc: Global,
+        span: Span,
+        class: Class,
+        form: Form,
+    ) -> Result<Boxed<Core>, ScopeFault>
         ensures { MatchResult result (λ c. (c ≡ core self.old.next span form) × (self.new ≡ noted (numbered self.old) (leaf span class self.old.next))) (λ fault. fault ≡ ScopeFault.Memory) }
     {
         let node = self.number()?;
         self.note(span, class, node)?;
-        Ok(Core::leaf(node, span, form))
+        Ok(Core::leaf(alloc, node, span, form)?)
     }
 
-    pub fn literal(&mut self, span: Span, literal: Lit) -> Result<Core, ScopeFault>
-        ensures { MatchResult result (λ c. (c ≡ core self.old.next span (Form.Literal literal)) × (self.new ≡ noted (numbered self.old) (leaf span 0 self.old.next))) (λ fault. fault ≡ ScopeFault.Memory) }
+    pub fn literal(
+        &mut self,
+        alloc: Global,
+        span: Span,
+        literal: Lit,
+    ) -> Result<Boxed<Core>, ScopeFault>
+        ensures { MatchResult result (λ c. (c ≡ core self.old.next span (Form.Literal literal)) × (self.new ≡ noted (numbered self.old) (leaf span Class.Literal self.old.next))) (λ fault. fault ≡ ScopeFault.Memory) }
     {
-        self.leaf(span, LITERAL, Form::Literal(literal))
+        self.leaf(alloc, span, Class::Literal, Form::Literal(literal))
     }
 
     pub fn applied(
         &mut self,
         alloc: Global,
         span: Span,
-        function: Core,
-        argument: Core,
-    ) -> Result<Core, ScopeFault>
+        function: Boxed<Core>,
+        argument: Boxed<Core>,
+    ) -> Result<Boxed<Core>, ScopeFault>
         ensures { MatchResult result (λ c. (c ≡ applied self.old.next span function argument) × (self.new ≡ numbered self.old)) (λ fault. fault ≡ ScopeFault.Memory) }
     {
         let node = self.number()?;
         Ok(Core::app(alloc, node, span, function, argument)?)
     }
 
-    pub fn function(&mut self, alloc: Global, span: Span, body: Core) -> Result<Core, ScopeFault>
+    pub fn function(
+        &mut self,
+        alloc: Global,
+        span: Span,
+        body: Boxed<Core>,
+    ) -> Result<Boxed<Core>, ScopeFault>
         ensures { MatchResult result (λ c. (c ≡ function self.old.next span body) × (self.new ≡ numbered self.old)) (λ fault. fault ≡ ScopeFault.Memory) }
     {
         let node = self.number()?;
@@ -114,9 +134,9 @@ impl Walk {
         alloc: Global,
         span: Span,
         dim: Dim,
-        left: Core,
-        right: Core,
-    ) -> Result<Core, ScopeFault>
+        left: Boxed<Core>,
+        right: Boxed<Core>,
+    ) -> Result<Boxed<Core>, ScopeFault>
         ensures { MatchResult result (λ c. (c ≡ core self.old.next span (choice_form dim left right)) × (self.new ≡ numbered self.old)) (λ fault. fault ≡ ScopeFault.Memory) }
     {
         let node = self.number()?;
@@ -142,17 +162,18 @@ impl Walk {
     /// A name that is written.
     pub fn name(
         &mut self,
+        alloc: Global,
         constants: &Constants,
         span: Span,
         name: &Word,
-    ) -> Result<Core, ScopeFault>
+    ) -> Result<Boxed<Core>, ScopeFault>
         ensures { Answers constants.now (expr span (form.Name name.now)) self.old self.new result }
     {
         if let Some(found) = self.scope.find(name.as_str()) {
-            return self.leaf(span, found.class, Form::Name(found.distance));
+            return self.leaf(alloc, span, found.class, Form::Name(found.distance));
         }
         match constants.find(name.as_str()) {
-            Some(id) => self.leaf(span, OPERATOR, Form::Const(id)),
+            Some(id) => self.leaf(alloc, span, Class::Constant, Form::Const(id)),
             None => Err(ScopeFault::Unbound { span }),
         }
     }

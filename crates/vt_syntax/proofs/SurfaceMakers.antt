@@ -65,10 +65,3 @@ match_here span list empty first first_at rest rest_at cell = refl
 
 pub match_is : (span : Span) (list0 list empty0 empty : Expr) (first : List ℕ) (first_at : Span) (rest : List ℕ) (rest_at : Span) (cell0 cell : Expr) → list0 ≡ list → empty0 ≡ empty → cell0 ≡ cell → roll-Expr record { span = span; form = Match list0 empty0 first first_at rest rest_at cell0 } ≡ expr span (match_form list empty first first_at rest rest_at cell)
 match_is span list0 list empty0 empty first first_at rest rest_at cell0 cell e f g = rw (e, f, g) (match_here span list empty first first_at rest rest_at cell)
-
-exprs_here : (first : Expr) (rest : Exprs) → More first rest ≡ exprs first rest
-unfolding block.shape-the_row-Expr-0 block.hidden-the_row-Expr-0 denote.Hole.Carrier.hidden block.shape-the_row-Exprs-1 block.hidden-the_row-Exprs-1
-exprs_here first rest = refl
-
-pub exprs_is : (first0 first : Expr) (rest0 rest : Exprs) → first0 ≡ first → rest0 ≡ rest → More first0 rest0 ≡ exprs first rest
-exprs_is first0 first rest0 rest e f = rw (e, f) (exprs_here first rest)

@@ -39,6 +39,10 @@ pub record IsInCheckingOrder (program : CoreProgram) : Type 0 where
   pub rise : (taken : ℕ → Option Side) → Rise (numbers_of (whole (selected_core_program taken program)))
   pub differ : AreDifferent (numbers_of (whole program))
 
+-- No number of the whole program is that of two nodes.
+abbrev pub HasDistinctNumbers : CoreProgram → Type 0
+HasDistinctNumbers program = AreDifferent (numbers_of (whole program))
+
 -- the greater of two numbers
 pub record IsGreater (result one other : ℕ) : Type 0 where
   pub either : (result ≡ one) ⊎ (result ≡ other)

@@ -7,3 +7,4 @@ pub mod Programs
 pub mod Checking
 pub mod Scoping
 pub mod Holes
+pub mod Leaves

@@ -13,7 +13,7 @@ pub enum Lit {
 
 /// An expression of the core.
 #[cycle(core)]
-#[derive(Debug, Drop)]
+#[derive(Drop)]
 pub struct Core {
     pub node: NodeId,
     pub span: Span,
@@ -21,7 +21,7 @@ pub struct Core {
 }
 
 #[cycle(core)]
-#[derive(Debug, Drop)]
+#[derive(Drop)]
 pub enum Form {
     Literal(Lit),
     /// How many binders stand between the name and its own binder.

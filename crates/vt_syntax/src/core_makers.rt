@@ -1,3 +1,4 @@
+//! A node of the core from its parts, each in a box of its own.
 ghost use Rattle.std.specs.Prelude.{◌≡◌, IfOk};
 ghost use Rattle.vt_syntax.specs.CoreTrees.{core, fun_form, app_form, let_form, let_rec_form, choice_form};
 
@@ -9,61 +10,70 @@ use vt_lex::{Span, Word};
 
 impl Core {
     /// A core expression without parts.
-    pub fn leaf(node: NodeId, span: Span, form: Form) -> Core
-        ensures { result ≡ core node span form }
+    pub fn leaf(
+        alloc: Global,
+        node: NodeId,
+        span: Span,
+        form: Form,
+    ) -> Result<Boxed<Core>, AllocError>
+        ensures { IfOk result (λ c. c ≡ core node span form) }
     {
-        Core { node, span, form }
+        let made = Core { node, span, form };
+        let made = Boxed::new(alloc, made)?;
+        Ok(made)
     }
 
-    pub fn fun(alloc: Global, node: NodeId, span: Span, body: Core) -> Result<Core, AllocError>
+    pub fn fun(
+        alloc: Global,
+        node: NodeId,
+        span: Span,
+        body: Boxed<Core>,
+    ) -> Result<Boxed<Core>, AllocError>
         ensures { IfOk result (λ c. c ≡ core node span (fun_form body)) }
     {
-        let body = Boxed::new(alloc, body)?;
-        Ok(Core {
+        let made = Core {
             node,
             span,
             form: Form::Fun(body),
-        })
+        };
+        let made = Boxed::new(alloc, made)?;
+        Ok(made)
     }
 
     pub fn app(
         alloc: Global,
         node: NodeId,
         span: Span,
-        function: Core,
-        argument: Core,
-    ) -> Result<Core, AllocError>
+        function: Boxed<Core>,
+        argument: Boxed<Core>,
+    ) -> Result<Boxed<Core>, AllocError>
         ensures { IfOk result (λ c. c ≡ core node span (app_form function argument)) }
     {
-        let function = Boxed::new(alloc, function);
-        let argument = Boxed::new(alloc, argument);
-        let function = function?;
-        let argument = argument?;
-        Ok(Core {
+        let made = Core {
             node,
             span,
             form: Form::App(function, argument),
-        })
+        };
+        let made = Boxed::new(alloc, made)?;
+        Ok(made)
     }
 
     pub fn let_in(
         alloc: Global,
         node: NodeId,
         span: Span,
-        bound: Core,
-        body: Core,
-    ) -> Result<Core, AllocError>
+        bound: Boxed<Core>,
+        body: Boxed<Core>,
+    ) -> Result<Boxed<Core>, AllocError>
         ensures { IfOk result (λ c. c ≡ core node span (let_form bound body)) }
     {
-        let bound = Boxed::new(alloc, bound);
-        let body = Boxed::new(alloc, body);
-        let bound = bound?;
-        let body = body?;
-        Ok(Core {
+        let made = Core {
             node,
             span,
             form: Form::Let(bound, body),
-        })
+        };
+        let made = Boxed::new(alloc, made)?;
+        Ok(made)
     }
 
     /// A `let rec`, with the bound name and its span.
@@ -73,20 +83,18 @@ impl Core {
         span: Span,
         name: Word,
         name_span: Span,
-        bound: Core,
-        body: Core,
-    ) -> Result<Core, AllocError>
+        bound: Boxed<Core>,
+        body: Boxed<Core>,
+    ) -> Result<Boxed<Core>, AllocError>
         ensures { IfOk result (λ c. c ≡ core node span (let_rec_form name name_span bound body)) }
     {
-        let bound = Boxed::new(alloc, bound);
-        let body = Boxed::new(alloc, body);
-        let bound = bound?;
-        let body = body?;
-        Ok(Core {
+        let made = Core {
             node,
             span,
             form: Form::LetRec(name, name_span, bound, body),
-        })
+        };
+        let made = Boxed::new(alloc, made)?;
+        Ok(made)
     }
 
     pub fn choice(
@@ -94,19 +102,17 @@ impl Core {
         node: NodeId,
         span: Span,
         dim: Dim,
-        left: Core,
-        right: Core,
-    ) -> Result<Core, AllocError>
+        left: Boxed<Core>,
+        right: Boxed<Core>,
+    ) -> Result<Boxed<Core>, AllocError>
         ensures { IfOk result (λ c. c ≡ core node span (choice_form dim left right)) }
     {
-        let left = Boxed::new(alloc, left);
-        let right = Boxed::new(alloc, right);
-        let left = left?;
-        let right = right?;
-        Ok(Core {
+        let made = Core {
             node,
             span,
             form: Form::Choice(dim, left, right),
-        })
+        };
+        let made = Boxed::new(alloc, made)?;
+        Ok(made)
     }
 }

@@ -4,7 +4,7 @@ use vt_dec::NodeId;
 use vt_lex::{Span, Word};
 
 /// A file in the core: its definitions in order, and its main expression.
-#[derive(Debug, Drop)]
+#[derive(Drop)]
 pub struct CoreProgram {
     pub defs: CoreDefs,
     pub main: Core,
@@ -12,7 +12,7 @@ pub struct CoreProgram {
 
 /// A definition, which stands for a `let` or `let rec` round all that follows. The number is that of
 /// this node.
-#[derive(Debug, Drop)]
+#[derive(Drop)]
 pub struct CoreDef {
     pub name: Word,
     pub name_span: Span,
@@ -22,7 +22,7 @@ pub struct CoreDef {
 }
 
 /// Definitions in order.
-#[derive(Debug, Drop)]
+#[derive(Drop)]
 pub struct CoreDefs {
     defs: Vec<CoreDef>,
 }

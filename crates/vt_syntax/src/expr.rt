@@ -18,14 +18,14 @@ pub enum Op {
 /// An expression as it is written, with the bytes from its first token to its last. Parentheses round
 /// an expression are no part of it.
 #[cycle(expr)]
-#[derive(Debug, Drop)]
+#[derive(Drop)]
 pub struct Expr {
     pub span: Span,
     pub form: ExprForm,
 }
 
 #[cycle(expr)]
-#[derive(Debug, Drop)]
+#[derive(Drop)]
 pub enum ExprForm {
     Number(u64),
     Quoted,
@@ -62,7 +62,7 @@ pub enum ExprForm {
 
 /// Expressions in order, the first one first.
 #[cycle(expr)]
-#[derive(Debug, Drop)]
+#[derive(Drop)]
 pub enum Exprs {
     Nil,
     More(Boxed<Expr>, Boxed<Exprs>),

@@ -5,6 +5,7 @@ ghost use Rattle.vt_syntax.specs.CoreTrees.{core};
 ghost use Rattle.vt_syntax.specs.Holes.{where_same, core_with_hole, def_with_hole, program_with_hole};
 
 use crate::{Core, CoreDef, CoreDefs, CoreProgram, Form};
+use sqlite_items::Boxed;
 use std::alloc::{AllocError, Global};
 use vt_dec::NodeId;
 use vt_lex::Span;
@@ -22,7 +23,7 @@ pub fn replace_leaf(
     let main = holed(&program.main, alloc, node)?;
     Ok(CoreProgram {
         defs: CoreDefs::new(defs),
-        main,
+        main: main.into_inner(),
     })
 }
 
@@ -46,20 +47,21 @@ fn holed_def(alloc: Global, def: &CoreDef, leaf: NodeId) -> Result<CoreDef, Allo
         name_span: def.name_span,
         node: def.node,
         recursive: def.recursive,
-        body,
+        body: body.into_inner(),
     })
 }
 
-fn holed(expr: &Core, alloc: Global, leaf: NodeId) -> Result<Core, AllocError>
+// The tree stands first: the recursion goes down in it.
+fn holed(expr: &Core, alloc: Global, leaf: NodeId) -> Result<Boxed<Core>, AllocError>
     ensures { IfOk result (λ made. made ≡ core_with_hole leaf expr.now) }
 {
     let node = expr.node;
     let at = expr.span;
     match &expr.form {
-        Form::Literal(literal) => Ok(kept_or_hole(node, at, Form::Literal(*literal), leaf)),
-        Form::Name(distance) => Ok(kept_or_hole(node, at, Form::Name(*distance), leaf)),
-        Form::Const(id) => Ok(kept_or_hole(node, at, Form::Const(*id), leaf)),
-        Form::Hole => Ok(Core::leaf(node, at, Form::Hole)),
+        Form::Literal(literal) => kept_or_hole(alloc, node, at, Form::Literal(*literal), leaf),
+        Form::Name(distance) => kept_or_hole(alloc, node, at, Form::Name(*distance), leaf),
+        Form::Const(id) => kept_or_hole(alloc, node, at, Form::Const(*id), leaf),
+        Form::Hole => Core::leaf(alloc, node, at, Form::Hole),
         Form::Fun(body) => {
             let body = holed(body.get(), alloc, leaf)?;
             Core::fun(alloc, node, at, body)
@@ -89,12 +91,19 @@ fn holed(expr: &Core, alloc: Global, leaf: NodeId) -> Result<Core, AllocError>
 }
 
 // A form without parts, or a hole where its number is that of the leaf.
-fn kept_or_hole(node: NodeId, at: Span, form: Form, leaf: NodeId) -> Core
-    ensures { result ≡ where_same (nat_eq node leaf) (core node at Hole) (core node at form) }
+fn kept_or_hole(
+    alloc: Global,
+    node: NodeId,
+    at: Span,
+    form: Form,
+    leaf: NodeId,
+) -> Result<Boxed<Core>, AllocError>
+    ensures { IfOk result (λ made. made ≡ where_same (nat_eq node leaf) (core node at Hole) (core node at form)) }
 {
     if node == leaf {
-        Core::leaf(node, at, Form::Hole)
+        drop(form);
+        Core::leaf(alloc, node, at, Form::Hole)
     } else {
-        Core::leaf(node, at, form)
+        Core::leaf(alloc, node, at, form)
     }
 }

@@ -1,13 +1,42 @@
+//! The leaves of a program: what a change may replace by a hole.
+ghost use Rattle.std.specs.Prelude.{◌≡◌};
+ghost use Rattle.vt_syntax.specs.Leaves.{class_number};
+
 use std::marker::Model;
 use vt_dec::NodeId;
 use vt_lex::Span;
+
+/// What a leaf is.
+#[derive(Clone, Copy, Debug, PartialEq, Eq)]
+pub enum Class {
+    Literal,
+    /// A name that `fun` or an arm of `match` binds.
+    Parameter,
+    /// A name that `def` or `let` binds.
+    Defined,
+    /// A constant's name or an operator.
+    Constant,
+}
+
+impl Class {
+    /// The number that a leaf has for its class.
+    pub fn number(self) -> u8
+        ensures { result ≡ class_number self }
+    {
+        match self {
+            Class::Literal => 0,
+            Class::Parameter => 1,
+            Class::Defined => 2,
+            Class::Constant => 3,
+        }
+    }
+}
 
 /// A written name in expression position, a written operator, or a literal.
 #[derive(Clone, Copy, Debug, PartialEq, Eq)]
 pub struct Leaf {
     pub span: Span,
-    /// 0 a literal, 1 a name bound by `fun` or by an arm of `match`, 2 a name bound by `def` or `let`,
-    /// 3 a constant's name or an operator.
+    /// The number of its [`Class`].
     pub class: u8,
     pub node: NodeId,
 }

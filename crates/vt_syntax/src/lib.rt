@@ -24,6 +24,6 @@ pub use core_program::{CoreDef, CoreDefs, CoreProgram};
 pub use expr::{Expr, ExprForm, Exprs, Op};
 pub use greatest::last_node;
 pub use holes::replace_leaf;
-pub use leaf::{Leaf, Leaves};
+pub use leaf::{Class, Leaf, Leaves};
 pub use levels::{left_level, level, right_level};
 pub use program::{Def, Defs, Program};

@@ -3,14 +3,14 @@ use std::marker::Model;
 use vt_lex::{Span, Word};
 
 /// A file: its definitions in order, and its main expression.
-#[derive(Debug, Drop)]
+#[derive(Drop)]
 pub struct Program {
     pub defs: Defs,
     pub main: Expr,
 }
 
 /// `def name = body;`, or with `rec`.
-#[derive(Debug, Drop)]
+#[derive(Drop)]
 pub struct Def {
     pub name: Word,
     pub name_span: Span,
@@ -19,7 +19,7 @@ pub struct Def {
 }
 
 /// Definitions in order.
-#[derive(Debug, Drop)]
+#[derive(Drop)]
 pub struct Defs {
     defs: Vec<Def>,
 }

@@ -10,16 +10,16 @@ const WHOLE: Span = Span { start: 0, end: 8 };
 // The program `1 + true`. The numbers are 1 to 5.
 fn sum(alloc: Global) -> Result<CoreProgram, AllocError> {
     let sign = Span { start: 2, end: 3 };
-    let sign = Core::leaf(NodeId(1), sign, Form::Const(ConstId::ADD));
+    let sign = Core::leaf(alloc, NodeId(1), sign, Form::Const(ConstId::ADD))?;
     let one = Span { start: 0, end: 1 };
-    let one = Core::leaf(NodeId(2), one, Form::Literal(Lit::Number(1)));
+    let one = Core::leaf(alloc, NodeId(2), one, Form::Literal(Lit::Number(1)))?;
     let half = Core::app(alloc, NodeId(3), WHOLE, sign, one)?;
     let truth = Span { start: 4, end: 8 };
-    let truth = Core::leaf(NodeId(4), truth, Form::Literal(Lit::Truth(true)));
+    let truth = Core::leaf(alloc, NodeId(4), truth, Form::Literal(Lit::Truth(true)))?;
     let main = Core::app(alloc, NodeId(5), WHOLE, half, truth)?;
     Ok(CoreProgram {
         defs: CoreDefs::new(Vec::new(alloc)),
-        main,
+        main: main.into_inner(),
     })
 }
 

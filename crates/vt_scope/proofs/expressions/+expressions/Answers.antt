@@ -3,7 +3,8 @@ use Rattle.vt_syntax.specs.declared.expr.ExprForm as form
 use Rattle.vt_syntax.specs.SurfaceTrees.{if_form, match_form}
 use Rattle.vt_scope.specs.Scopes.{parameter}
 use Rattle.vt_scope.specs.Cores as cores
-use Rattle.vt_scope.specs.Cores.{leaf, up_to}
+use Rattle.vt_syntax.specs.Leaves.{leaf}
+use Rattle.vt_scope.specs.Cores.{up_to}
 use Rattle.vt_scope.specs.Walking.{HasCore, HasApplied}
 use Rattle.vt_scope.proofs.Forms as Forms
 use Rattle.vt_syntax.proofs.SurfaceSeen.{fun_seen, let_seen, if_seen, match_seen, op_seen, apply_seen, pair_seen, choice_seen, more_seen}
@@ -122,14 +123,14 @@ expression-returns-in_ok-cell-in-Match t c =
 
 pub expression-returns-in_err-half-in-Op : goal.expression-returns-in_err-half-in-Op
 expression-returns-in_err-half-in-Op t c =
-    Forms.Answers-form c.args.constants.now c.args.expr.now _ _ _ _ (c.in-Op.is ∙ op_seen _ _ _ _ c.get-in-Op.result.now c.in-Op.right c.get-in-Op.ensures refl)
-    (Forms.operation_fails c.args.constants.now _ _ _ _ _ c.from_residual-in_err-half-in-Op.ensures.1 _ c.in_ok-sign-in-Op.ensures.1 _ _ c.get-in-Op.result.now c.in-Op.right c.in_err-half-in-Op.ensures)
+    Forms.Answers-form c.args.constants.now c.args.expr.now _ _ _ _ (c.in-Op.is ∙ op_seen _ _ _ _ c.get-in-Op-2.result.now c.in-Op.right c.get-in-Op-2.ensures refl)
+    (Forms.operation_fails c.args.constants.now _ _ _ _ _ c.from_residual-in_err-half-in-Op.ensures.1 _ c.in_ok-sign-in-Op.ensures.1 _ _ c.get-in-Op-2.result.now c.in-Op.right c.in_err-half-in-Op.ensures)
 
 pub expression-returns-in_ok-note-in-Op : goal.expression-returns-in_ok-note-in-Op
 expression-returns-in_ok-note-in-Op t c =
-    Forms.Answers-form c.args.constants.now c.args.expr.now _ _ _ _ (c.in-Op.is ∙ op_seen _ _ _ _ c.get-in-Op.result.now c.get-in-Op-2.result.now c.get-in-Op.ensures c.get-in-Op-2.ensures)
-    (Forms.operation_told c.args.constants.now _ c.in-Op.op c.in-Op.op_span c.get-in-Op.result.now c.get-in-Op-2.result.now _ _ _ _ _ _ _ _
-    (rw c.constant_of.ensures at c.in_ok-sign-in-Op.ensures.0) c.in_ok-sign-in-Op.ensures.1 c.in_ok-half-in-Op.ensures c.in_ok-note-in-Op.ensures c.argument-in-Op-2.ensures)
+    Forms.Answers-form c.args.constants.now c.args.expr.now _ _ _ _ (c.in-Op.is ∙ op_seen _ _ _ _ c.get-in-Op-2.result.now c.get-in-Op-3.result.now c.get-in-Op-2.ensures c.get-in-Op-3.ensures)
+    (Forms.operation_told c.args.constants.now _ c.in-Op.op c.in-Op.op_span c.get-in-Op-2.result.now c.get-in-Op-3.result.now _ _ _ _ _ _ _ _
+    (rw c.constant_of.ensures at c.in_ok-sign-in-Op.ensures.0) c.in_ok-sign-in-Op.ensures.1 c.in_ok-half-in-Op.ensures (rw c.get-in-Op.ensures at c.in_ok-note-in-Op.ensures) c.argument-in-Op-2.ensures)
 
 pub expression-returns-in_err-pair-in-Pair-2 : goal.expression-returns-in_err-pair-in-Pair-2
 expression-returns-in_err-pair-in-Pair-2 t c =

@@ -5,12 +5,13 @@ use Rattle.vt_scope.specs.Faults.{dims_of}
 use Rattle.vt_scope.specs.Cores.{IsCoreProgram}
 use Rattle.vt_scope.specs.Definitions.{scope_after}
 use Rattle.vt_scope.proofs.Closing.{closed-program}
-use Rattle.vt_scope.proofs.Numbering.{numbered_program}
+use Rattle.vt_scope.proofs.Numbering.{numbered_program, distinct_program}
 use Rattle.vt_scope.proofs.Programs.{program_given, program_core, program_free, defs_refused, main_refused, program_dims, program_few, fault_exit}
 use Rattle.vt_scope.proofs.resolving.resolve.Goals as goal
 
 pub returns : goal.returns
 returns c =
+    rw c.into_inner.ensures (
     let constants = c.args.constants.now in
     let program = c.args.program.now in
     let start : Walk = record { next = 1; scope = c.new.result; dims = c.new-2.result; leaves = c.new-3.result } in
@@ -31,7 +32,8 @@ returns c =
       few = program_few constants program start c.new.ensures refl c.new-2.ensures c.new-3.ensures end _ whole;
       closed = λ implied. closed-program constants end.dims program core end.leaves is_core implied;
       numbered = numbered_program constants end.dims program core end.leaves is_core;
-    }
+      distinct = distinct_program constants end.dims program core end.leaves is_core;
+    })
 
 pub returns-in_err-defs-clause-fault : goal.returns-in_err-defs-clause-fault
 returns-in_err-defs-clause-fault c =

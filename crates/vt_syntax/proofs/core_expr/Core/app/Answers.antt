@@ -1,5 +1,6 @@
+use Rattle.std.proofs.Common.{refl, ◌∙◌}
 use Rattle.vt_syntax.proofs.CoreMakers.{app_is}
 use Rattle.vt_syntax.proofs.core_expr.Core.app.Goals as goal
 
 pub returns : goal.returns
-returns c = app_is _ _ _ _ _ _ c.in_ok-function.ensures c.in_ok-argument.ensures
+returns c = c.in_ok-made.ensures ∙ app_is _ _ _ _ _ _ refl refl

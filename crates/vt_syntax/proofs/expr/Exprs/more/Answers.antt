@@ -1,5 +1,6 @@
-use Rattle.vt_syntax.proofs.SurfaceMakers.{exprs_is}
+use Rattle.std.proofs.Common.{sym}
+use Rattle.vt_syntax.proofs.SurfaceSeen.{more_seen}
 use Rattle.vt_syntax.proofs.expr.Exprs.more.Goals as goal
 
 pub returns : goal.returns
-returns c = exprs_is _ _ _ _ c.in_ok-first.ensures c.in_ok-rest.ensures
+returns c = more_seen _ _ _ _ (sym c.in_ok-first.ensures) (sym c.in_ok-rest.ensures)
