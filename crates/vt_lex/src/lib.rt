@@ -21,6 +21,3 @@ pub use place::{LineCol, line_col};
 pub use span::Span;
 pub use token::{Key, Sign, Token, TokenKind};
 pub use word::{Word, dim_at, word_at};
-
-#[cfg(test)]
-mod tests;

@@ -16,6 +16,3 @@ mod walk;
 
 pub use fault::ScopeFault;
 pub use resolving::{Resolved, resolve};
-
-#[cfg(test)]
-mod tests;

@@ -16,8 +16,6 @@ mod holes;
 mod leaf;
 mod levels;
 mod program;
-#[cfg(test)]
-mod tests;
 
 pub use core_expr::{Core, Form, Lit};
 pub use core_program::{CoreDef, CoreDefs, CoreProgram};

@@ -1,13 +1,23 @@
-use crate::{Key, LexFault, Sign, Token, TokenKind, Word, lex, line_col};
 use std::alloc::Global;
 use std::process::Abort;
 use std::test::Fail;
+use vt_lex::{Key, LexFault, Sign, Token, TokenKind, Word, lex, line_col};
 
 const LONGEST: usize = 262144;
 
 fn tokens(rt: &impl Abort, alloc: Global, text: &str) -> Result<Vec<Token>, LexFault> {
     assert!(rt; text.len() <= LONGEST);
     lex(alloc, text)
+}
+
+// One token of this kind, over so many bytes from the first on.
+fn is_one(tokens: &[Token], kind: TokenKind, length: usize) -> bool {
+    match tokens {
+        [token] => {
+            token.kind == kind && token.span.start == 0 && token.span.end as usize == length
+        }
+        _ => false,
+    }
 }
 
 #[test]
@@ -67,11 +77,10 @@ fn each_kind_is_read(rt: HostRuntime) -> Result<(), Fail> {
         ("^", TokenKind::Sign(Sign::Caret)),
         ("?", TokenKind::Sign(Sign::Question)),
     ] {
-        let tokens = tokens(&rt, rt.alloc(), text)?;
-        assert_eq!(rt; tokens.len(), 1, "{text}");
-        assert_eq!(rt; tokens[0].kind, kind, "{text}");
-        assert_eq!(rt; tokens[0].span.start, 0, "{text}");
-        assert_eq!(rt; tokens[0].span.end as usize, text.len(), "{text}");
+        assert!(rt;
+            is_one(&tokens(&rt, rt.alloc(), text)?, kind, text.len()),
+            "{text}"
+        );
     }
     Ok(())
 }
