@@ -1,7 +1,8 @@
 use Rattle.std.proofs.Common.{◌≡◌, ◌↔◌, ◌⊎◌, ℕ, zero, suc, ◌+◌, ◌*◌, ◌<◌, ◌≤◌, List, [], ◌∷◌, ◌++◌, length, map, take, drop, slice_get, Option, Some, None, All, inl, inr, refl, sym, ap, subst, ◌∙◌, arith}
 use Rattle.std.proofs.lemmas.List.{take_all, drop_all, length-map}
 use Rattle.std.proofs.lemmas.List.Elements.{All-cons}
-use Rattle.std.proofs.lemmas.Option.{slice_get_within, slice_get_past}
+use Rattle.std.proofs.lemmas.Option.{slice_get_within, slice_get_past, slice_get-get_or}
+use Rattle.std.proofs.Math.ListN.{get_or}
 use Rattle.vt_dec.specs.declared.side.Side.{Side}
 use Rattle.vt_dec.specs.declared.side.Side.TheVariants.{Left, Right}
 use Rattle.vt_dec.specs.declared.fate.Fate.{Fate}
@@ -12,10 +13,11 @@ use Rattle.vt_syntax.specs.declared.core_expr.Form.{Form, Literal, Name, Const, 
 use Rattle.vt_syntax.specs.declared.core_program.CoreDef.{CoreDef}
 use Rattle.vt_syntax.specs.declared.core_program.CoreProgram.{CoreProgram}
 use Rattle.vt_syntax.specs.CoreTrees.{core, fun_of, app_of, let_of, let_rec_of, choice_of, choice_form}
-use Rattle.vt_syntax.specs.Checking.{numbers_of, IsInCheckingOrder, IsGreatest}
+use Rattle.vt_syntax.specs.Checking.{Rise, numbers_of, IsInCheckingOrder, IsGreatest}
 use Rattle.vt_syntax.specs.Programs.{nested, whole}
 use Rattle.vt_syntax.specs.Scoping.{HasDims}
 use Rattle.vt_syntax.specs.Selection.{selected_core_def, selected_form, selected_core_program, chosen, core_at, IsPlainForm}
+use Rattle.vt_syntax.proofs.Choosing.{selected-alike}
 use Rattle.vt_type.specs.declared.plain.Plain.{Plain}
 use Rattle.vt_type.specs.Canonical.{IsCanonical}
 use Rattle.vt_type.specs.Constants.{Constant, IsTable}
@@ -63,12 +65,18 @@ pub reached_first : {N : ℕ} (K : List Constant) (core : CoreProgram) (decision
 reached_first {N = N} K core decision order dims sized =
     let program = nested (defs_at decision core.defs) (core_at decision core.main) in
     let bound = bounded (numbers_of program) in
+    let given = λ (dim : ℕ). Some (get_or decision dim Left) in
+    let same =
+    sym (nested_selected given core.defs core.main)
+    ∙ selected-alike (64 * N) given (slice_get decision) (λ dim less. sym (slice_get-get_or decision dim Left (omega arith))) (whole core).node (whole core).span (whole core).form dims
+    ∙ nested_selected (slice_get decision) core.defs core.main
+    in
     let plain : IsPlainForm program.form = subst (λ (e : Core). IsPlainForm e.form) (nested_selected (slice_get decision) core.defs core.main) (core_at-plain (64 * N) decision (whole core) dims (omega arith)) in
     record {
       first = 0;
       last = bound.0;
       before = tt;
-      numbered = rise-numbered 0 program.node program.form bound.0 plain (order.rise (slice_get decision)) bound.1;
+      numbered = rise-numbered 0 program.node program.form bound.0 plain (subst (λ (e : Core). Rise (numbers_of e)) same (order (λ dim. get_or decision dim Left))) bound.1;
       checked = tt;
       known = λ _. tt;
       parts = λ part scheme mark is. absurd cc;

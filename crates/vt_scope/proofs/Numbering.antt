@@ -181,4 +181,4 @@ module _ (constants : List Constant) (dims : List (List ℕ)) (program : Program
   distinct_program = differ-rise (numbers_of (whole core)) (subst Rise (ap numbers_of all_stays) (rise_of (λ dim. None)))
 
   pub numbered_program : IsInCheckingOrder core
-  numbered_program = record { rise = rise_of; differ = distinct_program }
+  numbered_program taken = rise_of (λ dim. Some (taken dim))

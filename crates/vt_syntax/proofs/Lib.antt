@@ -5,3 +5,4 @@ pub mod CoreSeen
 pub mod Holing
 pub mod GreatestLemmas
 pub mod Counting
+pub mod Choosing

@@ -1,4 +1,4 @@
-use Rattle.std.specs.Prelude.{◌≡◌, ◌≢◌, ◌⊎◌, ℕ, ◌<◌, ◌≤◌, List, [], ◌∷◌, ◌++◌, All, AllPairs, Contains, Option}
+use Rattle.std.specs.Prelude.{◌≡◌, ◌≢◌, ◌⊎◌, ℕ, ◌<◌, ◌≤◌, List, [], ◌∷◌, ◌++◌, All, AllPairs, Contains, Some}
 use Rattle.vt_dec.specs.declared.side.Side.{Side}
 use Rattle.vt_syntax.specs.declared.core_expr.Core.{Core}
 use Rattle.vt_syntax.specs.declared.core_expr.Form.{Form, Literal, Name, Const, Hole}
@@ -33,11 +33,9 @@ Rise numbers = AllPairs (λ one other. one < other) numbers
 abbrev pub AreDifferent : List ℕ → Type 0
 AreDifferent numbers = AllPairs (λ one other. one ≢ other) numbers
 
--- Whatever is selected, the numbers of what is left rise in checking order, and no number of the whole
--- program is that of two nodes.
-pub record IsInCheckingOrder (program : CoreProgram) : Type 0 where
-  pub rise : (taken : ℕ → Option Side) → Rise (numbers_of (whole (selected_core_program taken program)))
-  pub differ : AreDifferent (numbers_of (whole program))
+-- Whichever side is taken in each dimension, the numbers of what is left rise in checking order.
+abbrev pub IsInCheckingOrder : CoreProgram → Type 0
+IsInCheckingOrder program = (taken : ℕ → Side) → Rise (numbers_of (whole (selected_core_program (λ dim. Some (taken dim)) program)))
 
 -- No number of the whole program is that of two nodes.
 abbrev pub HasDistinctNumbers : CoreProgram → Type 0
