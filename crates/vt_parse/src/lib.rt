@@ -23,6 +23,3 @@ mod stepping;
 
 pub use fault::ParseFault;
 pub use parsing::parse;
-
-#[cfg(test)]
-mod tests;

@@ -9,6 +9,8 @@
 #[cfg(test)]
 mod cores;
 #[cfg(test)]
+mod programs;
+#[cfg(test)]
 mod scopes;
 #[cfg(test)]
 mod tokens;

@@ -1,18 +1,30 @@
-use crate::{ParseFault, parse};
+ghost use Rattle.vt_lex.specs.Spans.{AreSpansIn, BeginWithAt};
+
 use std::alloc::{AllocError, Global};
 use std::process::Abort;
 use std::test::Fail;
-use vt_lex::lex;
+use vt_lex::{Token, lex};
+use vt_parse::{ParseFault, parse};
 
 // What is answered of the text: its name, and the place of a token in the list of tokens.
 fn answer(rt: &impl Abort, alloc: Global, text: &str) -> Result<(&'static str, usize), Fail> {
     assert!(rt; text.len() <= 262144);
     let tokens = lex(alloc, text)?;
-    match parse(alloc, text, &tokens) {
-        Ok(_) => Ok(("read", tokens.len())),
-        Err(ParseFault::Unexpected { token }) => Ok(("unexpected", token)),
-        Err(ParseFault::TooDeep { token }) => Ok(("too deep", token)),
-        Err(ParseFault::Memory) => Ok(("memory", 0)),
+    Ok(parsed(alloc, text, &tokens))
+}
+
+fn parsed(alloc: Global, text: &str, tokens: &[Token]) -> (&'static str, usize)
+    requires spans { AreSpansIn text.now tokens.now }
+    requires dimensions { BeginWithAt text.now tokens.now }
+{
+    match parse(alloc, text, tokens) {
+        Ok(program) => {
+            drop(program);
+            ("read", tokens.len())
+        }
+        Err(ParseFault::Unexpected { token }) => ("unexpected", token),
+        Err(ParseFault::TooDeep { token }) => ("too deep", token),
+        Err(ParseFault::Memory) => ("memory", 0),
     }
 }
 
