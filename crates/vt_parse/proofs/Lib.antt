@@ -1,4 +1,4 @@
 mod ParsedLemmas
-mod LawLemmas
+pub mod LawLemmas
 mod ShutLemmas
 mod StepLemmas

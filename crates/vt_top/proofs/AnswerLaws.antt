@@ -1,22 +1,22 @@
-use Rattle.std.proofs.Common.{◌≡◌, ℕ, ◌+◌, ◌<◌, inl, inr, List, length, replicate, Option, Some, None, IfSome, arith, refl, sym, subst, ap, ◌∙◌, Result, Err, IfErr}
-use Rattle.std.proofs.lemmas.Result.{err_from_is_err_and}
-use Rattle.std.specs.Result.{IsErrAnd}
+use Rattle.std.proofs.Common.{◌≡◌, ℕ, ◌+◌, ◌<◌, inl, inr, List, length, replicate, Option, Some, None, IfSome, arith, refl, sym, subst, ap, ◌∙◌}
 use Rattle.std.proofs.lemmas.List.{length-replicate}
 use Rattle.vt_io.specs.Written.{Grows}
 use Rattle.vt_top.specs.declared.status.Status.{Status}
 use Rattle.vt_top.specs.declared.status.Status.TheVariants.{Done, Untyped, Usage, Refused, ReadFault, WriteFault, NoMemory}
-use Rattle.vt_top.specs.declared.stop.Stop.{Stop}
-use Rattle.vt_top.specs.declared.stop.Stop.TheVariants as stops
+use Rattle.vt_top.specs.declared.typing.TypeFault.TheVariants.{TooBig}
 use Rattle.vt_type.specs.declared.vtype.VType.{VType}
 use Rattle.vt_type.specs.Text.{text_of}
+use Rattle.vt_syntax.specs.declared.program.Program.{Program}
 use Rattle.vt_syntax.specs.declared.core_program.CoreProgram.{CoreProgram}
+use Rattle.vt_syntax.specs.declared.leaf.Leaf.{Leaf}
 use Rattle.vt_report.specs.declared.refusal.Refusal.{Refusal}
-use Rattle.vt_report.specs.declared.refusal.Refusal.TheVariants.{TooLong, NotText, BadCharacter, OpenString, BigNumber, Unexpected, TooDeep, Unbound, TooManyDimensions, TooBigPart}
+use Rattle.vt_report.specs.declared.refusal.Refusal.TheVariants.{TooBigPart}
 use Rattle.vt_report.specs.Lines.{line, refusal_line}
+use Rattle.vt_file.specs.Files.{IsSourceOf, IsCoreOf}
 use Rattle.vt_top.specs.Words.{Command, TypeOf, command_of}
 use Rattle.vt_top.specs.Refusals.{IsRefused}
-use Rattle.vt_top.specs.Answers.{Holds, IsTyped, FileAnswer, Out, Call, Prepares, Answers, IsWritten}
-use Rattle.vt_top.specs.Steps.{IsStop, IsStopOf, IsReadAs, IsMainType, IsPrinted}
+use Rattle.vt_top.specs.Answers.{IsHeldAs, HasTypeText, FileAnswer, Out, Call, Prepares, Answers, IsWritten}
+use Rattle.vt_top.specs.Steps.{IsTypeFault, IsMainType, IsPrinted}
 
 no_read_fault : (command : Option Command) (held : List ℕ → Option (List ℕ)) (text : List ℕ) → Out command held ReadFault text → ⊥
 no_read_fault None held text out = let e = out.0 in cc
@@ -56,7 +56,7 @@ written_answers call status text ended p (inl w) = subst (Answers call) (sym w.0
 written_answers call status text ended p (inr w) = subst (Answers call) (sym w.0) (w.1, status, text, p, w.2)
 
 -- Bytes that are told to be too many, or any that are, where nothing is told.
-pub too_long_bytes : (held : Option (List ℕ)) (limit : ℕ) → IfSome held (λ all. limit < length all) → (bytes : List ℕ) × Holds held bytes × (limit < length bytes)
+pub too_long_bytes : (held : Option (List ℕ)) (limit : ℕ) → IfSome held (λ all. limit < length all) → (bytes : List ℕ) × IsHeldAs held bytes × (limit < length bytes)
 too_long_bytes (Some all) limit h = (all, refl, h)
 too_long_bytes None limit h = (replicate (limit + 1) 0, tt, simp length-replicate (omega arith))
 
@@ -64,40 +64,36 @@ too_long_bytes None limit h = (replicate (limit + 1) 0, tt, simp length-replicat
 pub refused_answer : (bytes : List ℕ) (refusal : Refusal) (status : Status) (text : List ℕ) → IsRefused bytes refusal → (status ≡ Refused) × (text ≡ refusal_line refusal) → FileAnswer bytes status text
 refused_answer bytes refusal status text refused is = subst (λ s. FileAnswer bytes s text) (sym is.0) (refusal, refused, is.1)
 
--- The printed type of a file is its answer.
-pub typed_answer : (bytes : List ℕ) (type : VType) (dims : List (List ℕ)) (core : CoreProgram) (status : Status) (text : List ℕ)
-    → IsReadAs bytes core dims → IsMainType core type → IsPrinted dims type status text → FileAnswer bytes status text
-typed_answer bytes type dims core status text read main printed =
-    let typed : IsTyped bytes type text = record {
-      program = read.program;
-      core = core;
-      resolved = read.resolved;
-      parts = main.parts;
-      normal = main.normal;
-      small = main.small;
-      shown = printed.0 ∙ ap (λ names. line (text_of names type)) read.named;
-    } in
-    elim (printed.1) [
-      | inl done ↦ subst (λ s. FileAnswer bytes s text) (sym done.0) (type, typed, done.1)
-      | inr untyped ↦ subst (λ s. FileAnswer bytes s text) (sym untyped.0) (type, typed, untyped.1)
-    ]
+-- A file of a source has the core of the source.
+core_of : (bytes : List ℕ) (program : Program) (core : CoreProgram) (leaves : List Leaf) (dims : List (List ℕ)) → IsSourceOf bytes program core leaves dims → IsCoreOf bytes program core
+core_of bytes program core leaves dims is = record { tokens = is.tokens; read = is.read; in_scope = is.in_scope; leaves = leaves; core_is = is.core_is }
 
--- What stops a program in scope from being printed stops its file.
-pub stop_of_file : (bytes : List ℕ) (core : CoreProgram) (dims : List (List ℕ)) (stop : Stop) → IsReadAs bytes core dims → IsStopOf core stop → IsStop bytes stop
-stop_of_file bytes core dims (stops.Refused (TooBigPart name)) read h = (read.program, core, h.0, read.resolved, h.1, h.2)
-stop_of_file bytes core dims (stops.Refused TooLong) read h = absurd h
-stop_of_file bytes core dims (stops.Refused (NotText at)) read h = absurd h
-stop_of_file bytes core dims (stops.Refused (BadCharacter at)) read h = absurd h
-stop_of_file bytes core dims (stops.Refused (OpenString at)) read h = absurd h
-stop_of_file bytes core dims (stops.Refused (BigNumber at)) read h = absurd h
-stop_of_file bytes core dims (stops.Refused (Unexpected at spelling)) read h = absurd h
-stop_of_file bytes core dims (stops.Refused (TooDeep at)) read h = absurd h
-stop_of_file bytes core dims (stops.Refused (Unbound at name)) read h = absurd h
-stop_of_file bytes core dims (stops.Refused (TooManyDimensions at)) read h = absurd h
-stop_of_file bytes core dims stops.Memory read h = tt
+module _ (bytes : List ℕ) (program : Program) (core : CoreProgram) (leaves : List Leaf) (dims : List (List ℕ)) (source : IsSourceOf bytes program core leaves dims) where
+  -- The printed type of a file is its answer.
+  pub typed_answer : (type : VType) (status : Status) (text : List ℕ) → IsMainType core type → IsPrinted dims type status text → FileAnswer bytes status text
+  typed_answer type status text main printed =
+      let typed : HasTypeText bytes type text = record {
+        program = program;
+        core = core;
+        resolved = core_of bytes program core leaves dims source;
+        parts = main.parts;
+        normal = main.normal;
+        small = main.small;
+        shown = printed.0 ∙ ap (λ names. line (text_of names type)) source.named;
+      } in
+      elim (printed.1) [
+        | inl done ↦ subst (λ s. FileAnswer bytes s text) (sym done.0) (type, typed, done.1)
+        | inr untyped ↦ subst (λ s. FileAnswer bytes s text) (sym untyped.0) (type, typed, untyped.1)
+      ]
 
--- An error that is handed on is the one that was given.
-pub exit_with : {A : Type 0} (r : Result A Stop) (P : Stop → Type 0) (stop : Stop) → IsErrAnd r (λ own. own ≡ stop) → P stop → IfErr r P
-exit_with r P stop exit h =
-    let own = err_from_is_err_and r exit in
-    subst (λ one. IfErr one P) (sym (own.1 ∙ ap Err own.2)) h
+  -- A part that is too big to be printed is what its file is refused for.
+  pub too_big_refused : (name : List ℕ) → IsTypeFault core (TooBig name) → IsRefused bytes (TooBigPart name)
+  too_big_refused name (part, first, named) =
+      inr (record {
+        program = program;
+        core = core;
+        resolved = core_of bytes program core leaves dims source;
+        part = part;
+        first = first;
+        named = ap TooBigPart named;
+      })

@@ -1,6 +1,4 @@
 pub mod AnswerLaws
 pub mod NamedDimensions
 pub mod PartTypes
-pub mod EventPlaces
-pub mod ScopeRefusals
 pub mod OneAnswer

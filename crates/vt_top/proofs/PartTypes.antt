@@ -1,5 +1,5 @@
 use Rattle.std.proofs.Common.{◌≡◌, ◌↔◌, ℕ, ◌<◌, ◌≤◌, List, length, Option, Some, None, get_or, slice_get, sym, ap, subst, ◌∙◌, arith}
-use Rattle.std.proofs.lemmas.Option.{slice_get_past, slice_get_within, slice_get-get_or, get_or_from_slice_get}
+use Rattle.std.proofs.lemmas.Option.{slice_get_past, slice_get-get_or}
 use Rattle.vt_dec.specs.declared.side.Side.{Side}
 use Rattle.vt_dec.specs.declared.side.Space.TheVariants as space
 use Rattle.vt_type.specs.declared.plain.Plain.{Plain}
@@ -12,20 +12,18 @@ use Rattle.vt_syntax.specs.CoreTrees.{fun_of, app_of, let_of, let_rec_of, choice
 use Rattle.vt_syntax.specs.Programs.{whole}
 use Rattle.vt_syntax.specs.Scoping.{HasDims, IsClosed}
 use Rattle.vt_store.specs.Patterns.{fate_at}
-use Rattle.vt_store.specs.Stores.{cell_count}
 use Rattle.vt_scheme.specs.declared.scheme.Scheme.{Scheme}
-use Rattle.vt_scheme.specs.Schemes.{AreCells}
 use Rattle.vt_rules.specs.Meaning.{MeansPlainly, Means, PartMeans, prefix, ending_at}
 use Rattle.vt_infer.specs.declared.typed.Typed.{Typed}
 use Rattle.vt_infer.specs.Inferred.{IsInferred, IsPartAt, chosen}
 use Rattle.vt_norm.specs.ReadOut.{reads}
 use Rattle.vt_norm.proofs.Congruence.{for_same_outcomes}
-use Rattle.vt_report.specs.declared.refusal.Refusal.TheVariants.{TooLong, NotText, BadCharacter, OpenString, BigNumber, Unexpected, TooDeep, Unbound, TooManyDimensions, TooBigPart}
 use Rattle.vt_show.specs.Conditions.{DimsBelow}
-use Rattle.vt_top.specs.declared.stop.Stop.{Stop}
-use Rattle.vt_top.specs.declared.stop.Stop.TheVariants.{Refused, Memory}
+use Rattle.vt_file.specs.Files.{IsTypable}
+use Rattle.vt_top.specs.declared.typing.TypeFault.{TypeFault}
+use Rattle.vt_top.specs.declared.typing.TypeFault.TheVariants.{TooBig, Memory}
 use Rattle.vt_top.specs.Parts.{IsFitting}
-use Rattle.vt_top.specs.Steps.{IsStopOf, IsStopOfPart, IsTypable, IsPartType, IsMainType}
+use Rattle.vt_top.specs.Steps.{IsTypeFault, IsPartFault, IsPartType, IsMainType}
 use Rattle.vt_top.proofs.NamedDimensions.{meaning_below}
 
 -- What inference finds out of a part is what the part means.
@@ -46,16 +44,6 @@ module _ (core : CoreProgram) (typed : Typed 1) (is : IsInferred 1 core_constant
       (λ decision outcome total. part_agrees core_constants core part decision scheme mark typed
       (is.parts part scheme mark decision e f (record { sized = total; inside = tt })) outcome)
       normal
-
-  -- the scheme has its root, and its space is that of all decisions
-  scheme_is : (scheme.cells.space ≡ space.All) × AreCells scheme
-  scheme_is = subst (λ s. (s.cells.space ≡ space.All) × AreCells s) (get_or_from_slice_get typed.schemes part scheme scheme e) (is.schemes part scheme (slice_get_within typed.schemes part scheme e))
-
-  pub scheme_root : scheme.root < cell_count scheme.cells
-  scheme_root = scheme_is.1.root
-
-  pub scheme_space : scheme.cells.space ≡ space.All
-  scheme_space = scheme_is.0
 
 -- what was read at a place of a list
 pub taken : {A : Type 0} (xs ys : List A) (i : ℕ) (x : A) → x ≡ get_or ys i x → ys ≡ xs → i < length xs → slice_get xs i ≡ Some x
@@ -82,19 +70,10 @@ closed_in_all core dims is = record {
   dims_are = more_dims dims 64 is.few (whole core).form is.closed.dims_are;
 }
 
--- what stops a part, where all parts before it are fitting, stops the program
-pub stop_at : (core : CoreProgram) (part : ℕ) (stop : Stop) → part ≤ length core.defs → ((other : ℕ) → other < part → IsFitting core other) → IsStopOfPart core part stop → IsStopOf core stop
-stop_at core part (Refused (TooBigPart name)) within earlier h = (part, record { within = within; earlier = earlier; too_big = h.0 }, h.1)
-stop_at core part (Refused TooLong) within earlier h = absurd h
-stop_at core part (Refused (NotText at)) within earlier h = absurd h
-stop_at core part (Refused (BadCharacter at)) within earlier h = absurd h
-stop_at core part (Refused (OpenString at)) within earlier h = absurd h
-stop_at core part (Refused (BigNumber at)) within earlier h = absurd h
-stop_at core part (Refused (Unexpected at spelling)) within earlier h = absurd h
-stop_at core part (Refused (TooDeep at)) within earlier h = absurd h
-stop_at core part (Refused (Unbound at name)) within earlier h = absurd h
-stop_at core part (Refused (TooManyDimensions at)) within earlier h = absurd h
-stop_at core part Memory within earlier h = tt
+-- what faults a part, where all parts before it are fitting, faults the program
+pub fault_at : (core : CoreProgram) (part : ℕ) (fault : TypeFault) → part ≤ length core.defs → ((other : ℕ) → other < part → IsFitting core other) → IsPartFault core part fault → IsTypeFault core fault
+fault_at core part (TooBig name) within earlier h = (part, record { within = within; earlier = earlier; too_big = h.0 }, h.1)
+fault_at core part Memory within earlier h = tt
 
 pub fitting : (core : CoreProgram) (part : ℕ) (type : VType) → IsPartType core part type → IsFitting core part
 fitting core part type is = record { type = type; normal = is.normal; small = is.small }
@@ -107,5 +86,5 @@ last_means core type normal =
 pub main_is : (core : CoreProgram) (type : VType) → ((part : ℕ) → part < length core.defs → IsFitting core part) → IsPartType core (length core.defs) type → IsMainType core type
 main_is core type parts is = record { parts = parts; normal = last_means core type is.normal; small = is.small }
 
-pub main_named : (core : CoreProgram) (dims : ℕ) (type : VType) → IsTypable core dims → IsPartType core (length core.defs) type → DimsBelow dims type
-main_named core dims type typable is = meaning_below core_constants core dims type Total typable.closed.dims_are (last_means core type is.normal)
+pub main_named : (core : CoreProgram) (dims : ℕ) (type : VType) → IsTypable core dims → IsMainType core type → DimsBelow dims type
+main_named core dims type typable is = meaning_below core_constants core dims type Total typable.closed.dims_are is.normal

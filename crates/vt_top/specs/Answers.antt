@@ -12,25 +12,25 @@ use Rattle.vt_scope.specs.Faults.{dims_of}
 use Rattle.vt_rules.specs.Meaning.{Means}
 use Rattle.vt_report.specs.declared.refusal.Refusal.{Refusal}
 use Rattle.vt_report.specs.Lines.{line, refusal_line}
+use Rattle.vt_file.specs.Files.{IsCoreOf}
 use Rattle.vt_top.specs.declared.status.Status.{Status}
 use Rattle.vt_top.specs.declared.status.Status.TheVariants.{Done, Untyped, Usage, Refused, ReadFault, WriteFault, NoMemory}
 use Rattle.vt_top.specs.Lines.{usage_line, read_fault_line, no_memory_line}
 use Rattle.vt_top.specs.Words.{Command, TypeOf, command_of, files_named}
-use Rattle.vt_top.specs.Files.{IsResolved}
 use Rattle.vt_top.specs.Parts.{most_nodes, IsFitting}
 use Rattle.vt_top.specs.Refusals.{IsRefused}
 
 -- these bytes are held, where it is told what is
-abbrev pub Holds : Option (List ℕ) → List ℕ → Type 0
-Holds held bytes = IfSome held (λ all. all ≡ bytes)
+abbrev pub IsHeldAs : Option (List ℕ) → List ℕ → Type 0
+IsHeldAs held bytes = IfSome held (λ all. all ≡ bytes)
 
 -- The file is a program in scope, no part of it has a type that is too big, and the text is that of the
 -- normal form of what the program means: at each decision the canonical principal type of the program
 -- that it selects, or the error where that has none.
-pub record IsTyped (bytes : List ℕ) (type : VType) (text : List ℕ) : Type 0 where
+pub record HasTypeText (bytes : List ℕ) (type : VType) (text : List ℕ) : Type 0 where
   pub program : Program
   pub core : CoreProgram
-  pub resolved : IsResolved bytes program core
+  pub resolved : IsCoreOf bytes program core
   pub parts : (part : ℕ) → part < length core.defs → IsFitting core part
   pub normal : IsNormalFormOf type (Means core_constants core)
   pub small : nodes type ≤ most_nodes
@@ -38,15 +38,15 @@ pub record IsTyped (bytes : List ℕ) (type : VType) (text : List ℕ) : Type 0 
 
 -- The defined answers of a file: a status and a text.
 abbrev pub FileAnswer : List ℕ → Status → List ℕ → Type 0
-FileAnswer bytes Done text = (type : VType) × IsTyped bytes type text × (HasError type → ⊥)
-FileAnswer bytes Untyped text = (type : VType) × IsTyped bytes type text × HasError type
+FileAnswer bytes Done text = (type : VType) × HasTypeText bytes type text × (HasError type → ⊥)
+FileAnswer bytes Untyped text = (type : VType) × HasTypeText bytes type text × HasError type
 FileAnswer bytes Refused text = (refusal : Refusal) × IsRefused bytes refusal × (text ≡ refusal_line refusal)
 FileAnswer bytes other text = ⊥
 
 -- The defined answer of the words, where nothing fails: `held` is what is held under each name.
 abbrev pub Out : Option Command → (List ℕ → Option (List ℕ)) → Status → List ℕ → Type 0
 Out None held status text = (status ≡ Usage) × (text ≡ usage_line)
-Out (Some (TypeOf file)) held status text = (bytes : List ℕ) × Holds (held file) bytes × FileAnswer bytes status text
+Out (Some (TypeOf file)) held status text = (bytes : List ℕ) × IsHeldAs (held file) bytes × FileAnswer bytes status text
 
 -- What a call meets and what it leaves: the words, what is held, and the counts of failures and what
 -- was written, each before the call and after it.

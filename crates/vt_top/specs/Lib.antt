@@ -1,7 +1,6 @@
 pub mod Status
 pub mod Lines
 pub mod Words
-pub mod Files
 pub mod Parts
 pub mod Refusals
 pub mod Faults

@@ -1,39 +1,38 @@
 //! The answer of the words, before it is written.
-ghost use Rattle.std.specs.Prelude.{◌≡◌, ◌<◌, ◌≤◌, List, ℕ, length, IsSome, Contains, IfOk, IfErr, IsErrOf, string_bytes};
+ghost use Rattle.std.specs.Prelude.{◌≡◌, ◌<◌, ◌≤◌, List, ℕ, length, IsSome, Contains, IfOk, IsErrOf, string_bytes};
 ghost use Rattle.std.specs.Option.{option_map};
 ghost use Rattle.vt_io.specs.Counts.{Rose};
+ghost use Rattle.vt_type.specs.Constants.{core_constants};
 ghost use Rattle.vt_type.specs.Variational.{IsWellFormedV};
 ghost use Rattle.vt_show.specs.Conditions.{DimsBelow};
 ghost use Rattle.vt_report.specs.Lines.{refusal_line};
+ghost use Rattle.vt_lex.specs.Lexing.{most_bytes};
+ghost use Rattle.vt_file.specs.Files.{IsSourceOf, IsTypable};
 ghost use Rattle.vt_top.specs.Lines.{usage_line};
 ghost use Rattle.vt_top.specs.Words.{texts, TypeOf, command_of, files_named};
-ghost use Rattle.vt_top.specs.Steps.{IsStop, IsPrinted};
+ghost use Rattle.vt_top.specs.Steps.{IsPrinted};
 ghost use Rattle.vt_top.specs.Answers.{Out, FileAnswer, GrewByAtMost};
 
 use crate::Status;
-use crate::reading::read;
-use crate::stop::Stop;
-use crate::typing::main_type;
+use crate::typing::{TypeFault, main_type};
 use std::alloc::{AllocError, Global};
 use thiserror::Error;
+use vt_file::{FileFault, LARGEST_FILE, Source, read};
 use vt_io::{FetchFault, Fetched, Files};
 use vt_report::{Refusal, refusal_line};
 use vt_show::show_type;
 use vt_type::{Tables, VType};
 
-/// The most bytes that a file may have.
-const LARGEST_FILE: usize = 262144;
-
-/// A status and the text that goes with it.
+// A status and the text that goes with it.
 #[derive(Debug, Drop)]
-pub struct Answer {
-    pub status: Status,
-    pub text: String,
+pub(crate) struct Answer {
+    pub(crate) status: Status,
+    pub(crate) text: String,
 }
 
-/// Why there is no answer.
+// Why there is no answer.
 #[derive(Debug, Drop, Error)]
-pub enum Fault {
+pub(crate) enum Fault {
     #[error("a file could not be read")]
     Read,
     #[error("out of memory")]
@@ -65,8 +64,12 @@ impl From<FetchFault> for Fault {
     }
 }
 
-/// The answer of the words, with at most one fetch for each file that they name.
-pub fn prepare<F: Files>(alloc: Global, words: &[String], files: &mut F) -> Result<Answer, Fault>
+// The answer of the words, with at most one fetch for each file that they name.
+pub(crate) fn prepare<F: Files>(
+    alloc: Global,
+    words: &[String],
+    files: &mut F,
+) -> Result<Answer, Fault>
     ensures defined { IfOk result (λ a. Out (command_of (texts words.now)) (F.held files.old) a.status (string_bytes a.text)) }
     ensures failed { IsErrOf result Fault.Read → (file : List ℕ) × Contains (files_named (command_of (texts words.now))) file × Rose (F.faults files.old file) (F.faults files.new file) }
 
@@ -114,25 +117,36 @@ fn refused(alloc: Global, refusal: &Refusal) -> Result<Answer, AllocError>
 
 // The answer of a file that is not too long.
 fn file_answer(alloc: Global, bytes: &[u8]) -> Result<Answer, AllocError>
-    requires { length bytes.now ≤ 262144 }
+    requires { length bytes.now ≤ most_bytes }
     ensures { IfOk result (λ a. FileAnswer bytes.now a.status (string_bytes a.text)) }
 {
-    match typed(alloc, bytes) {
-        Ok(answer) => Ok(answer),
-        Err(Stop::Refused(refusal)) => refused(alloc, &refusal),
-        Err(Stop::Memory) => Err(AllocError),
+    match read(alloc, bytes) {
+        Ok(source) => {
+            let answer = type_answer(alloc, &source);
+            drop(source);
+            answer
+        }
+        Err(FileFault::Refused(refusal)) => refused(alloc, &refusal),
+        Err(FileFault::Memory) => Err(AllocError),
     }
 }
 
-// The answer of a file whose type is printed.
-fn typed(alloc: Global, bytes: &[u8]) -> Result<Answer, Stop>
-    requires { length bytes.now ≤ 262144 }
-    ensures answer { IfOk result (λ a. FileAnswer bytes.now a.status (string_bytes a.text)) }
-    ensures stopped { IfErr result (IsStop bytes.now) }
+// The answer of a program in scope: its printed type, unless a part has one that is too big.
+fn type_answer(alloc: Global, source: &Source<'_>) -> Result<Answer, AllocError>
+    requires source { IsSourceOf source.now.text.now source.now.program source.now.resolved.core source.now.resolved.leaves source.now.resolved.tables.dims }
+    requires constants { source.now.constants ≡ core_constants }
+    requires typable { IsTypable source.now.resolved.core (length source.now.resolved.tables.dims) }
+    ensures { IfOk result (λ a. FileAnswer source.now.text.now a.status (string_bytes a.text)) }
 {
-    let resolved = read(alloc, bytes)?;
-    let normal = main_type(alloc, &resolved)?;
-    Ok(printed(alloc, &normal, &resolved.tables)?)
+    match main_type(alloc, source) {
+        Ok(normal) => {
+            let answer = printed(alloc, &normal, &source.resolved.tables);
+            drop(normal);
+            answer
+        }
+        Err(TypeFault::TooBig { part }) => refused(alloc, &Refusal::TooBigPart { name: part }),
+        Err(TypeFault::Memory) => Err(AllocError),
+    }
 }
 
 // The answer that prints a type.

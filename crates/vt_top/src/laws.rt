@@ -5,7 +5,7 @@ ghost use Rattle.vt_io.specs.Memory.{IsCalm, held_in, faults_in};
 ghost use Rattle.vt_top.specs.Lines.{no_memory_line};
 ghost use Rattle.vt_top.specs.Words.{texts, command_of, files_named};
 ghost use Rattle.vt_top.specs.Answers.{Out, call_of, IsComplete};
-ghost use Rattle.vt_top.specs.Laws.{HasOneAnswer};
+ghost use Rattle.vt_top.specs.Laws.{HasOneFileAnswer};
 ghost use Rattle.vt_top.specs.declared.status.Status.{Status as Ending};
 
 use crate::{Status, run};
@@ -34,5 +34,5 @@ pub fn run_in_memory(
 /// A file has no two defined answers: each refusal and each printed type comes exactly where its
 /// definition says.
 pub fn one_answer()
-    ensures { HasOneAnswer }
+    ensures { HasOneFileAnswer }
 {}

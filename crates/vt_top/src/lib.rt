@@ -7,10 +7,7 @@
 mod answer;
 mod entry;
 pub mod laws;
-mod places;
-mod reading;
 mod status;
-mod stop;
 mod typing;
 
 pub use entry::run;

@@ -5,39 +5,65 @@ ghost use Rattle.vt_type.specs.Constants.{core_constants};
 ghost use Rattle.vt_type.specs.Variational.{IsWellFormedV};
 ghost use Rattle.vt_infer.specs.Inferred.{IsInferred};
 ghost use Rattle.vt_show.specs.Conditions.{DimsBelow};
+ghost use Rattle.vt_file.specs.Files.{IsTypable};
 ghost use Rattle.vt_top.specs.Parts.{part_name};
-ghost use Rattle.vt_top.specs.Steps.{IsStopOf, IsStopOfPart, IsTypable, IsPartType, IsMainType};
+ghost use Rattle.vt_top.specs.Steps.{IsTypeFault, IsPartFault, IsPartType, IsMainType};
 
-use crate::stop::Stop;
 use std::alloc::{AllocError, Global};
+use thiserror::Error;
 use vt_dec::Space;
+use vt_file::Source;
 use vt_infer::{Typed, infer};
 use vt_lex::Word;
 use vt_norm::{OutFault, read_out};
-use vt_report::Refusal;
-use vt_scope::Resolved;
 use vt_syntax::CoreProgram;
-use vt_type::{Constants, VType};
+use vt_type::VType;
 
-/// The most nodes that a printed type may have.
+// The most nodes that a printed type may have.
 const LARGEST_TYPE: u64 = 4096;
 
-/// The normal form of what a program in scope means, unless a part has a type that is too big.
-pub fn main_type(alloc: Global, resolved: &Resolved) -> Result<VType, Stop>
-    requires { IsTypable resolved.now.core (length resolved.now.tables.dims) }
-    ensures typed { IfOk result (IsMainType resolved.now.core) }
+// Why no type of a program in scope is printed.
+#[derive(Debug, Drop, Error)]
+pub(crate) enum TypeFault {
+    // The type of the part of this name has too many nodes.
+    #[error("a type is too big to be printed")]
+    TooBig { part: Word },
+    // Memory ran out.
+    #[error("out of memory")]
+    Memory,
+}
+
+// The normal form of what a program in scope means, unless a part has a type that is too big.
+pub(crate) fn main_type(alloc: Global, source: &Source<'_>) -> Result<VType, TypeFault>
+    requires typable { IsTypable source.now.resolved.core (length source.now.resolved.tables.dims) }
+    requires constants { source.now.constants ≡ core_constants }
+    ensures typed { IfOk result (IsMainType source.now.resolved.core) }
     ensures well_formed { IfOk result IsWellFormedV }
-    ensures named { IfOk result (DimsBelow (length resolved.now.tables.dims)) }
-    ensures stopped { IfErr result (IsStopOf resolved.now.core) }
+    ensures named { IfOk result (DimsBelow (length source.now.resolved.tables.dims)) }
+    ensures fault { IfErr result (IsTypeFault source.now.resolved.core) }
 {
-    let core = &resolved.core;
-    let constants = Constants::core(alloc)?;
-    let typed: Typed<1> = infer(alloc, core, &constants, Space::All)?;
+    let core = &source.resolved.core;
+    match infer(alloc, core, &source.constants, Space::All) {
+        Ok(typed) => parts_type(alloc, core, &typed),
+        Err(AllocError) => Err(TypeFault::Memory),
+    }
+}
+
+// The normal form of the last part, where no part has a type that is too big.
+fn parts_type(alloc: Global, core: &CoreProgram, typed: &Typed<1>) -> Result<VType, TypeFault>
+    requires { IsInferred 1 core_constants core.now All typed.now }
+    ensures typed { IfOk result (IsMainType core.now) }
+    ensures well_formed { IfOk result IsWellFormedV }
+    ensures fault { IfErr result (IsTypeFault core.now) }
+{
     let count = core.defs.as_slice().len();
     for part in 0..count {
-        part_type(alloc, core, &typed, part)?;
+        match part_type(alloc, core, typed, part) {
+            Ok(normal) => drop(normal),
+            Err(fault) => return Err(fault),
+        }
     }
-    part_type(alloc, core, &typed, count)
+    part_type(alloc, core, typed, count)
 }
 
 // The normal form of what a part means, unless it is too big.
@@ -46,12 +72,12 @@ fn part_type(
     core: &CoreProgram,
     typed: &Typed<1>,
     part: usize,
-) -> Result<VType, Stop>
+) -> Result<VType, TypeFault>
     requires inferred { IsInferred 1 core_constants core.now All typed.now }
     requires within { part ≤ length core.now.defs }
     ensures typed { IfOk result (IsPartType core.now part) }
     ensures well_formed { IfOk result IsWellFormedV }
-    ensures stopped { IfErr result (IsStopOfPart core.now part) }
+    ensures fault { IfErr result (IsPartFault core.now part) }
 {
     let scheme = &typed.schemes.as_slice()[part];
     let mark = typed.marks.as_slice()[part];
@@ -64,11 +90,11 @@ fn part_type(
         LARGEST_TYPE,
     ) {
         Ok(normal) => Ok(normal),
-        Err(OutFault::TooBig) => {
-            let name = part_name(alloc, core, part)?;
-            Err(Stop::Refused(Refusal::TooBigPart { name }))
-        }
-        Err(OutFault::Memory) => Err(Stop::Memory),
+        Err(OutFault::TooBig) => match part_name(alloc, core, part) {
+            Ok(part) => Err(TypeFault::TooBig { part }),
+            Err(AllocError) => Err(TypeFault::Memory),
+        },
+        Err(OutFault::Memory) => Err(TypeFault::Memory),
     }
 }
 

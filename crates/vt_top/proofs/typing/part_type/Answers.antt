@@ -13,8 +13,8 @@ returns-in-Ok-clause-typed c =
       small = c.in-Ok.ensures.normal.1;
     }
 
-pub returns-in_ok-name-in-Err-TooBig-clause-stopped : goal.returns-in_ok-name-in-Err-TooBig-clause-stopped
-returns-in_ok-name-in-Err-TooBig-clause-stopped c =
+pub returns-in-Ok-part_name-clause-fault : goal.returns-in-Ok-part_name-clause-fault
+returns-in-Ok-part_name-clause-fault c =
     let typed = c.args.typed.now in
     let is = c.requires.inferred in
     let scheme = taken typed.schemes c.as_slice.result.now c.args.part c.index-as_slice-part.result c.index-as_slice-part.is c.as_slice.ensures (omega (arith, is.scheme_count, c.requires.within)) in
@@ -25,5 +25,5 @@ returns-in_ok-name-in-Err-TooBig-clause-stopped c =
         normal = part_normal c.args.core.now typed is c.args.part c.index-as_slice-part.result c.index-as_slice-part-2.result scheme mark large.0 large.1;
         large = large.2;
       },
-      c.in_ok-name-in-Err-TooBig.ensures,
+      c.in-Ok-part_name.ensures,
     )

@@ -1,11 +1,11 @@
-use Rattle.vt_top.proofs.ScopeRefusals.{unbound_is, unbound_in, dimension_is, dimension_in}
-use Rattle.vt_top.proofs.reading.out_of_scope.Goals as goal
+use Rattle.vt_file.proofs.ScopeRefusals.{unbound_is, unbound_in, dimension_is, dimension_in}
+use Rattle.vt_file.proofs.reading.out_of_scope.Goals as goal
 
 pub place_of-at-requires-clause-span : goal.place_of-at-requires-clause-span
 place_of-at-requires-clause-span c = unbound_in _ _ _ _ _ c.requires.read c.requires.spans c.requires.fault c.in-Unbound.is
 
-pub word_of-requires : goal.word_of-requires
-word_of-requires c = unbound_in _ _ _ _ _ c.requires.read c.requires.spans c.requires.fault c.in-Unbound.is
+pub word_at-requires : goal.word_at-requires
+word_at-requires c = unbound_in _ _ _ _ _ c.requires.read c.requires.spans c.requires.fault c.in-Unbound.is
 
 pub place_of-at-requires-in-TooManyDimensions-clause-span : goal.place_of-at-requires-in-TooManyDimensions-clause-span
 place_of-at-requires-in-TooManyDimensions-clause-span c = dimension_in _ _ _ _ _ c.requires.read c.requires.spans c.requires.fault c.in-TooManyDimensions.is

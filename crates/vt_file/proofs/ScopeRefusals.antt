@@ -3,6 +3,7 @@ use Rattle.vt_lex.specs.declared.span.Span.{Span}
 use Rattle.vt_lex.specs.declared.token.Token.{Token}
 use Rattle.vt_lex.specs.Spans.{IsSpanIn, AreSpansIn}
 use Rattle.vt_type.specs.Constants.{Constant, core_constants}
+use Rattle.vt_type.specs.Variational.{most_dimensions}
 use Rattle.vt_syntax.specs.declared.program.Program.{Program}
 use Rattle.vt_syntax.specs.declared.core_program.CoreProgram.{CoreProgram}
 use Rattle.vt_syntax.specs.declared.leaf.Leaf.{Leaf}
@@ -12,14 +13,13 @@ use Rattle.vt_scope.specs.declared.fault.ScopeFault.{ScopeFault}
 use Rattle.vt_scope.specs.declared.fault.ScopeFault.TheVariants.{Unbound, TooManyDimensions}
 use Rattle.vt_scope.specs.Faults.{IsFault, dims_of, program_events, first_fault}
 use Rattle.vt_scope.specs.Cores.{HasImplied, IsCoreProgram}
-use Rattle.vt_top.specs.Files.{IsRead, scope_fault}
-use Rattle.vt_top.specs.Steps.{IsReadAs, IsTypable}
-use Rattle.vt_top.proofs.EventPlaces.{fault_in_token}
+use Rattle.vt_file.specs.Files.{IsProgramOf, scope_fault, IsSourceOf, IsTypable}
+use Rattle.vt_file.proofs.EventPlaces.{fault_in_token}
 
 -- The place that scope refuses is that of a token.
 
 module _ (text : List ℕ) (tokens : List Token) (program : Program) (fault : ScopeFault) (span : Span)
-    (read : IsRead text tokens program) (spans : AreSpansIn text tokens) (is : IsFault (scope_fault program) fault) where
+    (read : IsProgramOf text tokens program) (spans : AreSpansIn text tokens) (is : IsFault (scope_fault program) fault) where
   pub unbound_is : fault ≡ Unbound span → scope_fault program ≡ Some (Unbound span)
   unbound_is e = subst (IsFault (scope_fault program)) e is
 
@@ -34,21 +34,19 @@ module _ (text : List ℕ) (tokens : List Token) (program : Program) (fault : Sc
 
 -- What is given of a program in scope.
 module _ (constants : List Constant) (program : Program) (core : CoreProgram) (leaves : List Leaf) (dims : List (List ℕ)) (table : constants ≡ core_constants) where
-  pub read_as : (bytes : List ℕ) (tokens : List Token) → IsRead bytes tokens program → IsCoreProgram constants (dims_of program) program core leaves → dims ≡ dims_of program
-      → first_fault [] (program_events constants program) ≡ None → IsReadAs bytes core dims
-  read_as bytes tokens read is named none = record {
-    program = program;
-    resolved = record {
-      tokens = tokens;
-      read = read;
-      in_scope = subst (λ K. first_fault [] (program_events K program) ≡ None) table none;
-      leaves = leaves;
-      core_is = subst (λ K. IsCoreProgram K (dims_of program) program core leaves) table is;
-    };
+  pub source_is : (bytes : List ℕ) (tokens : List Token) → IsProgramOf bytes tokens program → AreSpansIn bytes tokens
+      → IsCoreProgram constants (dims_of program) program core leaves → dims ≡ dims_of program
+      → first_fault [] (program_events constants program) ≡ None → IsSourceOf bytes program core leaves dims
+  source_is bytes tokens read spans is named none = record {
+    tokens = tokens;
+    spans = spans;
+    read = read;
+    in_scope = subst (λ K. first_fault [] (program_events K program) ≡ None) table none;
+    core_is = subst (λ K. IsCoreProgram K (dims_of program) program core leaves) table is;
     named = named;
   }
 
-  pub typable : (HasImplied constants → IsClosed (length constants) (length dims) core) → length dims ≤ 64 → IsInCheckingOrder core → IsTypable core (length dims)
+  pub typable : (HasImplied constants → IsClosed (length constants) (length dims) core) → length dims ≤ most_dimensions → IsInCheckingOrder core → IsTypable core (length dims)
   typable closed few numbered = record {
     closed = (subst (λ K. HasImplied K → IsClosed (length K) (length dims) core) table closed) (lit≤ tt);
     few = few;

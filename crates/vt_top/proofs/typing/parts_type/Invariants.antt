@@ -1,6 +1,6 @@
 use Rattle.std.proofs.Common.{ℕ, ◌<◌}
 use Rattle.vt_top.specs.Parts.{IsFitting}
-use Rattle.vt_top.proofs.typing.main_type.Given as goal
+use Rattle.vt_top.proofs.typing.parts_type.Given as goal
 
 -- the parts so far are fitting
 abbrev pub invariant-loop-part : goal.invariant-loop-part

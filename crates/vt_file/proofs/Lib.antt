@@ -1,0 +1,3 @@
+pub mod EventPlaces
+pub mod ScopeRefusals
+pub mod OneReading

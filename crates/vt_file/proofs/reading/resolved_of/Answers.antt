@@ -1,0 +1,15 @@
+use Rattle.vt_file.proofs.ScopeRefusals.{source_is, typable}
+use Rattle.vt_file.proofs.reading.resolved_of.Goals as goal
+
+pub returns-in-Ok-resolve-clause-source : goal.returns-in-Ok-resolve-clause-source
+returns-in-Ok-resolve-clause-source c =
+    let is = c.in-Ok-resolve.ensures in
+    source_is _ c.args.program _ _ _ c.in-Ok.ensures c.args.text.now c.args.tokens.now c.requires.read c.requires.spans is.core is.dims is.fault
+
+pub returns-in-Ok-resolve-clause-typable : goal.returns-in-Ok-resolve-clause-typable
+returns-in-Ok-resolve-clause-typable c =
+    let is = c.in-Ok-resolve.ensures in
+    typable _ c.args.program _ c.in-Ok-resolve.resolved.leaves _ c.in-Ok.ensures is.closed is.few is.numbered
+
+pub returns-in-Err-resolve-clause-fault : goal.returns-in-Err-resolve-clause-fault
+returns-in-Err-resolve-clause-fault c = c.refused.ensures c.args.text.now c.out_of_scope-refusal.ensures
