@@ -2,6 +2,7 @@
 //! the nodes above what was walked over, that of the numbers. Each function takes the tree first, since
 //! the recursion goes down in it.
 ghost use Rattle.std.specs.Prelude.{◌≡◌, MatchResult};
+ghost use Rattle.vt_syntax.specs.SurfaceTrees as surface;
 ghost use Rattle.vt_syntax.specs.CoreTrees.{core};
 ghost use Rattle.vt_scope.specs.Cores.{bound_form, op_id, left_span};
 ghost use Rattle.vt_scope.specs.Walking.{Answers, AnswersUnder, AnswersBound, AnswersApplied, AnswersArm, AnswersItems};
@@ -32,71 +33,187 @@ pub fn expression(
         ExprForm::Truth(value) => walk.literal(alloc, at, Lit::Truth(*value)),
         ExprForm::Name(name) => walk.name(alloc, constants, at, name),
         ExprForm::Hole => walk.part(alloc, at, Form::Hole),
-        ExprForm::Fun(name, _, body) => {
-            let body = under(body.get(), alloc, constants, walk, name, Class::Parameter)?;
-            walk.function(alloc, at, body)
-        }
+        ExprForm::Fun(name, _, body) => function(body.get(), alloc, constants, walk, at, name),
         ExprForm::Let {
             recursive,
             name,
             name_span,
             bound,
             body,
-        } => {
-            let bound = bound_part(bound.get(), alloc, constants, walk, name, *recursive)?;
-            let node = walk.number()?;
-            let body = under(body.get(), alloc, constants, walk, name, Class::Defined)?;
-            let_core(alloc, node, at, *recursive, name, *name_span, bound, body)
-        }
-        ExprForm::If(condition, then, otherwise) => {
-            let cond = walk.implied(alloc, at, ConstId::COND)?;
-            let cond = argument(condition.get(), alloc, constants, walk, at, cond)?;
-            let cond = argument(then.get(), alloc, constants, walk, at, cond)?;
-            argument(otherwise.get(), alloc, constants, walk, at, cond)
-        }
+        } => binding(
+            bound, body, alloc, constants, walk, at, *recursive, name, *name_span,
+        ),
+        ExprForm::If(test, then, other) => condition(test, then, other, alloc, constants, walk, at),
         ExprForm::Match {
             list,
             empty,
             first,
-            first_span,
+            first_span: first_at,
             rest,
-            rest_span: _,
             cell,
-        } => {
-            let split = walk.implied(alloc, at, ConstId::SPLIT)?;
-            let split = argument(list.get(), alloc, constants, walk, at, split)?;
-            let split = argument(empty.get(), alloc, constants, walk, at, split)?;
-            let here = Span {
-                start: first_span.start,
-                end: at.end,
-            };
-            let cell = arm(cell.get(), alloc, constants, walk, here, first, rest)?;
-            walk.applied(alloc, at, split, cell)
-        }
+            ..
+        } => matched(
+            list, empty, cell, alloc, constants, walk, at, first, *first_at, rest,
+        ),
         ExprForm::Op(op, op_span, left, right) => {
-            let sign = walk.part(alloc, *op_span, Form::Const(constant_of(*op)))?;
-            let node = sign.get().node;
-            let half = argument(left.get(), alloc, constants, walk, at, sign)?;
-            walk.note(*op_span, Class::Constant, node)?;
-            argument(right.get(), alloc, constants, walk, at, half)
+            operation(left, right, alloc, constants, walk, at, *op, *op_span)
         }
-        ExprForm::Apply(function, operand) => {
-            let function = expression(function.get(), alloc, constants, walk)?;
-            argument(operand.get(), alloc, constants, walk, at, function)
-        }
-        ExprForm::Pair(left, right) => {
-            let pair = walk.implied(alloc, at, ConstId::PAIR)?;
-            let pair = argument(left.get(), alloc, constants, walk, at, pair)?;
-            argument(right.get(), alloc, constants, walk, at, pair)
-        }
+        ExprForm::Apply(left, right) => apply(left.get(), right.get(), alloc, constants, walk, at),
+        ExprForm::Pair(left, right) => pair(left.get(), right.get(), alloc, constants, walk, at),
         ExprForm::List(items) => list(items, alloc, constants, walk, at, at),
         ExprForm::Choice(dim, dim_span, left, right) => {
-            let dim = walk.dimension(dim, *dim_span)?;
-            let left = expression(left.get(), alloc, constants, walk)?;
-            let right = expression(right.get(), alloc, constants, walk)?;
-            walk.choice(alloc, at, dim, left, right)
+            choice(left, right, alloc, constants, walk, at, dim, *dim_span)
         }
     }
+}
+
+#[cycle(expressions)]
+fn function(
+    body: &Expr,
+    alloc: Global,
+    constants: &Constants,
+    walk: &mut Walk,
+    at: Span,
+    name: &Word,
+) -> Result<Boxed<Core>, ScopeFault>
+    ensures { (name_at : Span) → Answers constants.now (surface.expr at (surface.fun_form name.now name_at body.now)) walk.old walk.new result }
+{
+    let body = under(body, alloc, constants, walk, name, Class::Parameter)?;
+    walk.function(alloc, at, body)
+}
+
+#[cycle(expressions)]
+fn binding(
+    bound: &Boxed<Expr>,
+    body: &Boxed<Expr>,
+    alloc: Global,
+    constants: &Constants,
+    walk: &mut Walk,
+    at: Span,
+    recursive: bool,
+    name: &Word,
+    name_span: Span,
+) -> Result<Boxed<Core>, ScopeFault>
+    ensures { Answers constants.now (surface.expr at (surface.let_form recursive name.now name_span bound.now body.now)) walk.old walk.new result }
+{
+    let bound = bound_part(bound.get(), alloc, constants, walk, name, recursive)?;
+    let node = walk.number()?;
+    let body = under(body.get(), alloc, constants, walk, name, Class::Defined)?;
+    let_core(alloc, node, at, recursive, name, name_span, bound, body)
+}
+
+#[cycle(expressions)]
+fn condition(
+    test: &Boxed<Expr>,
+    then: &Boxed<Expr>,
+    other: &Boxed<Expr>,
+    alloc: Global,
+    constants: &Constants,
+    walk: &mut Walk,
+    at: Span,
+) -> Result<Boxed<Core>, ScopeFault>
+    ensures { Answers constants.now (surface.expr at (surface.if_form test.now then.now other.now)) walk.old walk.new result }
+{
+    let cond = walk.implied(alloc, at, ConstId::COND)?;
+    let cond = argument(test.get(), alloc, constants, walk, at, cond)?;
+    let cond = argument(then.get(), alloc, constants, walk, at, cond)?;
+    argument(other.get(), alloc, constants, walk, at, cond)
+}
+
+#[cycle(expressions)]
+fn matched(
+    list: &Boxed<Expr>,
+    empty: &Boxed<Expr>,
+    cell: &Boxed<Expr>,
+    alloc: Global,
+    constants: &Constants,
+    walk: &mut Walk,
+    at: Span,
+    first: &Word,
+    first_span: Span,
+    rest: &Word,
+) -> Result<Boxed<Core>, ScopeFault>
+    ensures { (rest_at : Span) → Answers constants.now (surface.expr at (surface.match_form list.now empty.now first.now first_span rest.now rest_at cell.now)) walk.old walk.new result }
+{
+    let split = walk.implied(alloc, at, ConstId::SPLIT)?;
+    let split = argument(list.get(), alloc, constants, walk, at, split)?;
+    let split = argument(empty.get(), alloc, constants, walk, at, split)?;
+    let here = Span {
+        start: first_span.start,
+        end: at.end,
+    };
+    let cell = arm(cell.get(), alloc, constants, walk, here, first, rest)?;
+    walk.applied(alloc, at, split, cell)
+}
+
+#[cycle(expressions)]
+fn operation(
+    left: &Boxed<Expr>,
+    right: &Boxed<Expr>,
+    alloc: Global,
+    constants: &Constants,
+    walk: &mut Walk,
+    at: Span,
+    op: Op,
+    op_span: Span,
+) -> Result<Boxed<Core>, ScopeFault>
+    ensures { Answers constants.now (surface.expr at (surface.op_form op op_span left.now right.now)) walk.old walk.new result }
+{
+    let sign = walk.part(alloc, op_span, Form::Const(constant_of(op)))?;
+    let node = sign.get().node;
+    let half = argument(left.get(), alloc, constants, walk, at, sign)?;
+    walk.note(op_span, Class::Constant, node)?;
+    argument(right.get(), alloc, constants, walk, at, half)
+}
+
+#[cycle(expressions)]
+fn apply(
+    left: &Expr,
+    right: &Expr,
+    alloc: Global,
+    constants: &Constants,
+    walk: &mut Walk,
+    at: Span,
+) -> Result<Boxed<Core>, ScopeFault>
+    ensures { Answers constants.now (surface.expr at (surface.apply_form left.now right.now)) walk.old walk.new result }
+{
+    let function = expression(left, alloc, constants, walk)?;
+    argument(right, alloc, constants, walk, at, function)
+}
+
+#[cycle(expressions)]
+fn pair(
+    left: &Expr,
+    right: &Expr,
+    alloc: Global,
+    constants: &Constants,
+    walk: &mut Walk,
+    at: Span,
+) -> Result<Boxed<Core>, ScopeFault>
+    ensures { Answers constants.now (surface.expr at (surface.pair_form left.now right.now)) walk.old walk.new result }
+{
+    let pair = walk.implied(alloc, at, ConstId::PAIR)?;
+    let pair = argument(left, alloc, constants, walk, at, pair)?;
+    argument(right, alloc, constants, walk, at, pair)
+}
+
+#[cycle(expressions)]
+fn choice(
+    left: &Boxed<Expr>,
+    right: &Boxed<Expr>,
+    alloc: Global,
+    constants: &Constants,
+    walk: &mut Walk,
+    at: Span,
+    dim: &Word,
+    dim_span: Span,
+) -> Result<Boxed<Core>, ScopeFault>
+    ensures { Answers constants.now (surface.expr at (surface.choice_form dim.now dim_span left.now right.now)) walk.old walk.new result }
+{
+    let dim = walk.dimension(dim, dim_span)?;
+    let left = expression(left.get(), alloc, constants, walk)?;
+    let right = expression(right.get(), alloc, constants, walk)?;
+    walk.choice(alloc, at, dim, left, right)
 }
 
 // An expression under one binder more.
