@@ -36,4 +36,3 @@ pub mod Joints
 pub mod MonoCells
 pub mod SchemeLists
 pub mod Uses
-pub mod AllLeft

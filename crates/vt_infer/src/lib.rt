@@ -15,8 +15,6 @@ mod inference;
 mod joining;
 mod naming;
 mod steps;
-#[cfg(test)]
-mod tests;
 mod typed;
 mod variables;
 mod work;

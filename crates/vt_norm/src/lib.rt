@@ -20,8 +20,6 @@ mod front;
 pub mod laws;
 mod names;
 mod normal_form;
-#[cfg(test)]
-mod out_tests;
 mod pairing;
 mod part;
 mod parts;
@@ -31,8 +29,6 @@ mod resolving;
 mod root;
 mod rooting;
 mod sole;
-#[cfg(test)]
-mod tests;
 
 pub use compare::equivalent;
 pub use fault::OutFault;

@@ -7,7 +7,5 @@
 #![tactic(auto)]
 
 mod scheme;
-#[cfg(test)]
-mod tests;
 
 pub use scheme::{Copied, Scheme, freeze, instance};

@@ -19,8 +19,6 @@ mod narrowing;
 mod pattern;
 mod sharing;
 mod store;
-#[cfg(test)]
-mod tests;
 mod views;
 mod walk;
 

@@ -9,8 +9,20 @@
 #[cfg(test)]
 mod decisions;
 #[cfg(test)]
+mod inference;
+#[cfg(test)]
+mod normal_forms;
+#[cfg(test)]
+mod readings;
+#[cfg(test)]
+mod schemes;
+#[cfg(test)]
 mod shown;
 #[cfg(test)]
 mod spelling;
 #[cfg(test)]
+mod stores;
+#[cfg(test)]
 mod types;
+#[cfg(test)]
+mod unification;

@@ -27,10 +27,6 @@ mod samples;
 mod search;
 mod seen;
 mod sole;
-#[cfg(test)]
-mod tests;
 mod unifier;
-#[cfg(test)]
-mod walk_tests;
 
 pub use unifier::unify;

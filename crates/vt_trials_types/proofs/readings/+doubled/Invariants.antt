@@ -1,4 +1,4 @@
-use Rattle.vt_norm.proofs.out_tests.+doubled.Given as goal
+use Rattle.vt_trials_types.proofs.readings.+doubled.Given as goal
 
 abbrev pub decreases-doubled : goal.decreases-doubled
 decreases-doubled l = l.count

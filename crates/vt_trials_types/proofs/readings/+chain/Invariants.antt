@@ -1,4 +1,4 @@
-use Rattle.vt_norm.proofs.out_tests.+chain.Given as goal
+use Rattle.vt_trials_types.proofs.readings.+chain.Given as goal
 
 abbrev pub decreases-chain : goal.decreases-chain
 decreases-chain l = l.count

@@ -4,12 +4,11 @@ ghost use Rattle.vt_rules.specs.Examples.{alone, wrong_sum};
 ghost use Rattle.vt_store.specs.Stores.{cell_count};
 ghost use Rattle.vt_type.specs.Plain.{arity};
 
-use crate::{Typed, infer};
 use std::alloc::{AllocError, Global};
-use std::test::Fail;
 use vt_dec::{Context, Decision, Fate, NodeId, Space};
+use vt_infer::{Typed, infer};
 use vt_lex::Span;
-use vt_store::Pattern;
+use vt_store::{CellId, Pattern, Store};
 use vt_syntax::{Core, CoreDefs, CoreProgram, Form, Lit, replace_leaf};
 use vt_type::{ConstId, Constants, Head};
 use vt_unify::unify;
@@ -45,24 +44,22 @@ fn holed_sum(alloc: Global) -> Result<Typed<1>, AllocError>
     Ok(typed)
 }
 
-// Whether the main expression of `1 + _` can have a type without parts, where every dimension is Left.
-fn can_be(alloc: Global, head: Head) -> Result<bool, AllocError>
-    requires { arity head ≡ 0 }
+// Whether the cell can have a type without parts, where every dimension is Left.
+fn can_be(
+    store: &mut Store<1>,
+    pattern: &mut Pattern<1>,
+    cell: CellId,
+    head: Head,
+) -> Result<bool, AllocError>
+    requires head { arity head ≡ 0 }
+    requires cell { cell < cell_count store.old }
+    requires store { store.old.space ≡ All }
+    requires pattern { pattern.old.space ≡ All }
 {
-    let typed = holed_sum(alloc)?;
-    let mut store = typed.store;
-    let mut pattern = typed.pattern;
-    let cell = store.con(head, &[])?;
+    let other = store.con(head, &[])?;
     let whole = Context::whole(Space::All);
-    unify(
-        &mut store,
-        &mut pattern,
-        &whole,
-        typed.main,
-        cell,
-        NodeId(6),
-    )?;
-    Ok(is_alive(&pattern))
+    unify(store, pattern, &whole, cell, other, NodeId(6))?;
+    Ok(is_alive(pattern))
 }
 
 fn is_alive(pattern: &Pattern<1>) -> bool
@@ -72,11 +69,18 @@ fn is_alive(pattern: &Pattern<1>) -> bool
     pattern.fate(&left) == Fate::Alive
 }
 
+// Whether the main expression of `1 + _` can have the type.
+fn sum_can_be(alloc: Global, head: Head) -> Result<bool, AllocError>
+    requires { arity head ≡ 0 }
+{
+    let mut typed = holed_sum(alloc)?;
+    let answer = can_be(&mut typed.store, &mut typed.pattern, typed.main, head);
+    drop(typed);
+    answer
+}
+
 #[test]
-fn a_sum_with_a_hole_is_an_integer(rt: HostRuntime) -> Result<(), Fail> {
-    let typed = holed_sum(rt.alloc())?;
-    assert!(rt; is_alive(&typed.pattern));
-    assert!(rt; can_be(rt.alloc(), Head::Int)?);
-    assert!(rt; !can_be(rt.alloc(), Head::Bool)?);
-    Ok(())
+fn a_sum_with_a_hole_is_an_integer(rt: HostRuntime) {
+    assert!(rt; matches!(sum_can_be(rt.alloc(), Head::Int), Ok(true)));
+    assert!(rt; matches!(sum_can_be(rt.alloc(), Head::Bool), Ok(false)));
 }
