@@ -1,14 +1,12 @@
 use Rattle.std.proofs.Common.{◌≡◌, ℕ, ◌≤◌, List, Some, refl, arith}
 use Rattle.vt_lex.specs.declared.span.Span.{Span}
 use Rattle.vt_syntax.specs.declared.core_expr.Core.{Core}
-use Rattle.vt_syntax.specs.declared.core_expr.Form.{Literal, Name, Const}
-use Rattle.vt_syntax.specs.declared.core_expr.Lit.{Lit}
+use Rattle.vt_syntax.specs.declared.core_expr.Form.{Name}
 use Rattle.vt_syntax.specs.CoreTrees.{core, fun_form, app_form, let_form, let_rec_form}
 use Rattle.vt_type.specs.declared.plain.Plain.{Plain}
-use Rattle.vt_type.specs.Plain.{IsWellFormed, IsInstance}
-use Rattle.vt_type.specs.Constants.{Constant, HasClosed, ◌⇒◌}
+use Rattle.vt_type.specs.Plain.{IsWellFormed}
+use Rattle.vt_type.specs.Constants.{Constant, ◌⇒◌}
 use Rattle.vt_rules.specs.Env.{Env, Entry, ◌▸◌, Mono, Def, Rec, entry_at}
-use Rattle.vt_rules.specs.Typing.{literal_type}
 use Rattle.vt_rules.specs.TypingUpTo.{TyUpTo}
 use Rattle.vt_rules.specs.TypingUpTo as to
 
