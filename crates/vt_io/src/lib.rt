@@ -16,8 +16,6 @@ mod host_sink;
 mod mem_files;
 mod mem_sink;
 mod sink;
-#[cfg(test)]
-mod tests;
 
 pub use bytes::Bytes;
 pub use files::{FetchFault, Fetched, Files};

@@ -6,8 +6,6 @@
 
 mod line;
 mod refusal;
-#[cfg(test)]
-mod tests;
 
 pub use line::refusal_line;
 pub use refusal::Refusal;

@@ -12,14 +12,3 @@ mod typing;
 
 pub use entry::run;
 pub use status::Status;
-
-#[cfg(test)]
-mod example_tests;
-#[cfg(test)]
-mod form_tests;
-#[cfg(test)]
-mod grouping_tests;
-#[cfg(test)]
-mod program_tests;
-#[cfg(test)]
-mod tests;

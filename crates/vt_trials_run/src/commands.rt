@@ -1,42 +1,10 @@
-use crate::{Status, run};
+use crate::asking::{answers, doubled_type, owned, prints, prints_error, refuses, refuses_bytes};
 use std::alloc::{AllocError, Global};
 use std::test::Fail;
 use vt_io::{MemFiles, MemSink};
+use vt_top::{Status, run};
 
 const LONGEST: usize = 262144;
-
-// The text and the status of the words over a file named `f`.
-pub fn answer(alloc: Global, words: &[&str], file: &[u8]) -> Result<(Status, MemSink), AllocError> {
-    let mut files = MemFiles::new(alloc);
-    files.add("f", file)?;
-    let mut sink = MemSink::with_room(alloc, 100000)?;
-    let words = owned(alloc, words)?;
-    let status = run(alloc, &words, &mut files, &mut sink);
-    Ok((status, sink))
-}
-
-fn owned(alloc: Global, words: &[&str]) -> Result<Vec<String>, AllocError> {
-    words
-        .iter()
-        .map(|word| String::from_str(alloc, word))
-        .try_collect(alloc)
-}
-
-// The type of the file is printed so.
-pub fn prints(alloc: Global, file: &str, text: &str) -> Result<bool, AllocError> {
-    let (status, sink) = answer(alloc, &["type", "f"], file.as_bytes())?;
-    Ok(status == Status::Done && sink.bytes() == text.as_bytes())
-}
-
-// The file is refused by this line.
-pub fn refuses(alloc: Global, file: &str, line: &str) -> Result<bool, AllocError> {
-    refuses_bytes(alloc, file.as_bytes(), line)
-}
-
-pub fn refuses_bytes(alloc: Global, file: &[u8], line: &str) -> Result<bool, AllocError> {
-    let (status, sink) = answer(alloc, &["type", "f"], file)?;
-    Ok(status == Status::Refused && sink.bytes() == line.as_bytes())
-}
 
 #[test]
 fn types_are_printed(rt: HostRuntime) -> Result<(), Fail> {
@@ -167,12 +135,6 @@ fn refusals_come_in_order(rt: HostRuntime) -> Result<(), Fail> {
     Ok(())
 }
 
-// The type of the file is printed so, with the error in it.
-pub fn prints_error(alloc: Global, file: &str, text: &str) -> Result<bool, AllocError> {
-    let (status, sink) = answer(alloc, &["type", "f"], file.as_bytes())?;
-    Ok(status == Status::Untyped && sink.bytes() == text.as_bytes())
-}
-
 #[test]
 fn every_form_is_typed(rt: HostRuntime) -> Result<(), Fail> {
     let alloc = rt.alloc();
@@ -287,16 +249,6 @@ fn doubled(alloc: Global, count: u32) -> Result<String, AllocError> {
     Ok(text)
 }
 
-// The text of the type of that.
-pub fn doubled_type(alloc: Global, count: u32) -> Result<String, AllocError> {
-    let mut text = String::from_str(alloc, "Int * Int")?;
-    for _ in 1..count {
-        text = format!(in alloc; "({text}) * ({text})")?;
-    }
-    text.push_str("\n")?;
-    Ok(text)
-}
-
 #[test]
 fn many_dimensions_are_nested(rt: HostRuntime) -> Result<(), Fail> {
     let alloc = rt.alloc();
@@ -317,9 +269,8 @@ fn the_limit_on_types_is_exact(rt: HostRuntime) -> Result<(), Fail> {
 
 // The words are answered by the line on usage.
 fn is_usage(alloc: Global, words: &[&str]) -> Result<bool, AllocError> {
-    let (status, sink) = answer(alloc, words, b"1")?;
     let line = b"usage: vtc COMMAND ARGUMENTS\n".as_slice();
-    Ok(status == Status::Usage && sink.bytes() == line)
+    answers(alloc, words, b"1", Status::Usage, line)
 }
 
 #[test]
@@ -337,45 +288,52 @@ fn the_limit_on_the_length_is_exact(rt: HostRuntime) -> Result<(), Fail> {
     let alloc = rt.alloc();
     let mut file = vec![in alloc; b' '; LONGEST - 1]?;
     file.push(b'1')?;
-    let (status, sink) = answer(alloc, &["type", "f"], &file)?;
-    assert_eq!(rt; status, Status::Done);
-    assert_eq!(rt; sink.bytes(), b"Int\n".as_slice());
+    let line = b"Int\n".as_slice();
+    assert!(rt; answers(alloc, &["type", "f"], &file, Status::Done, line)?);
     file.push(b' ')?;
-    let (status, sink) = answer(alloc, &["type", "f"], &file)?;
-    assert_eq!(rt; status, Status::Refused);
-    assert_eq!(rt; sink.bytes(), b"file too long\n".as_slice());
+    assert!(rt; refuses_bytes(alloc, &file, "file too long\n")?);
     Ok(())
+}
+
+// The file `f` with the text `1`.
+fn one_file(alloc: Global) -> Result<MemFiles, AllocError> {
+    let mut files = MemFiles::new(alloc);
+    files.add("f", b"1")?;
+    Ok(files)
+}
+
+// The status of the type of the file with this name.
+fn status_of(
+    alloc: Global,
+    name: &str,
+    files: &mut MemFiles,
+    sink: &mut MemSink,
+) -> Result<Status, AllocError> {
+    let words = owned(alloc, &["type", name])?;
+    Ok(run(alloc, &words, files, sink))
+}
+
+// A put of which two bytes are taken ends the program.
+fn put_fails(alloc: Global, files: &mut MemFiles) -> Result<bool, AllocError> {
+    let mut sink = MemSink::with_room(alloc, 100)?;
+    sink.fail_at(1, 2);
+    let status = status_of(alloc, "f", files, &mut sink)?;
+    Ok(status == Status::WriteFault && sink.bytes() == b"In".as_slice())
+}
+
+fn fetch_fails(alloc: Global, name: &str, files: &mut MemFiles) -> Result<bool, AllocError> {
+    let mut sink = MemSink::with_room(alloc, 100)?;
+    let status = status_of(alloc, name, files, &mut sink)?;
+    Ok(status == Status::ReadFault && sink.bytes() == b"read failed\n".as_slice())
 }
 
 #[test]
 fn faults_are_answered_by_their_cause(rt: HostRuntime) -> Result<(), Fail> {
     let alloc = rt.alloc();
-    let words = owned(alloc, &["type", "f"])?;
-    let mut files = MemFiles::new(alloc);
-    files.add("f", b"1")?;
-
-    let mut sink = MemSink::with_room(alloc, 100)?;
-    sink.fail_at(1, 2);
-    assert_eq!(rt;
-        run(alloc, &words, &mut files, &mut sink),
-        Status::WriteFault
-    );
-    assert_eq!(rt; sink.bytes(), b"In".as_slice());
-
-    files.fail_at(2)?;
-    let mut sink = MemSink::with_room(alloc, 100)?;
-    assert_eq!(rt;
-        run(alloc, &words, &mut files, &mut sink),
-        Status::ReadFault
-    );
-    assert_eq!(rt; sink.bytes(), b"read failed\n".as_slice());
-
-    let other = owned(alloc, &["type", "g"])?;
-    let mut sink = MemSink::with_room(alloc, 100)?;
-    assert_eq!(rt;
-        run(alloc, &other, &mut files, &mut sink),
-        Status::ReadFault
-    );
-    assert_eq!(rt; sink.bytes(), b"read failed\n".as_slice());
+    let mut files = one_file(alloc)?;
+    assert!(rt; matches!(put_fails(alloc, &mut files), Ok(true)));
+    assert!(rt; files.fail_at(2).is_ok());
+    assert!(rt; matches!(fetch_fails(alloc, "f", &mut files), Ok(true)));
+    assert!(rt; matches!(fetch_fails(alloc, "g", &mut files), Ok(true)));
     Ok(())
 }

@@ -1,5 +1,5 @@
 //! Programs as a user writes them: functions on lists, functions of functions, and choices in every place.
-use crate::tests::{prints, prints_error};
+use crate::asking::{prints, prints_error};
 use std::alloc::{AllocError, Global};
 use std::test::Fail;
 

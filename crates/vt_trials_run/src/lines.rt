@@ -1,7 +1,7 @@
-use crate::{Refusal, refusal_line};
 use std::alloc::{AllocError, Global};
 use std::test::Fail;
 use vt_lex::{LineCol, Word};
+use vt_report::{Refusal, refusal_line};
 
 fn says(alloc: Global, refusal: &Refusal, line: &str) -> Result<bool, AllocError> {
     Ok(refusal_line(alloc, refusal)?.as_str() == line)

@@ -1,5 +1,5 @@
 //! The examples of the documents, and limits that only larger files meet.
-use crate::tests::{doubled_type, prints, refuses};
+use crate::asking::{doubled_type, prints, refuses, repeated};
 use std::alloc::{AllocError, Global};
 use std::test::Fail;
 
@@ -73,22 +73,6 @@ fn a_recursive_definition_serves_all_variants(rt: HostRuntime) -> Result<(), Fai
         "def rec map = fun f -> fun l ->\n  match l with [] -> [] | x :: xs -> f x :: map f xs;\nmap @Key{succ, not} @Key{[1; 2], [true]}\n";
     assert!(rt; prints(rt.alloc(), file, "[@Key{Int, Bool}]\n")?);
     Ok(())
-}
-
-// One text, then another so many times, and a last one.
-pub fn repeated(
-    alloc: Global,
-    first: &str,
-    more: &str,
-    count: u32,
-    last: &str,
-) -> Result<String, AllocError> {
-    let mut text = String::from_str(alloc, first)?;
-    for _ in 0..count {
-        text.push_str(more)?;
-    }
-    text.push_str(last)?;
-    Ok(text)
 }
 
 #[test]

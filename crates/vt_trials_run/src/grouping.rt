@@ -1,9 +1,8 @@
 //! How operators group: by the limit on depth, and by the types of their operands.
-use crate::Status;
-use crate::example_tests::repeated;
-use crate::tests::{answer, prints};
+use crate::asking::{answer, prints, repeated};
 use std::alloc::{AllocError, Global};
 use std::test::Fail;
+use vt_top::Status;
 
 // All operators, the loosest first; the empty one stands for application.
 const OPERATORS: [&str; 10] = ["or", "and", "=", "<", "::", "^", "+", "-", "*", ""];

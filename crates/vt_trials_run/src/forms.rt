@@ -1,9 +1,8 @@
 //! The tokens that each form needs, texts that are refused at one token, and both sides of the limits on depth.
-use crate::Status;
-use crate::example_tests::repeated;
-use crate::tests::{answer, prints, refuses, refuses_bytes};
+use crate::asking::{answer, answers, prints, refuses, refuses_bytes, repeated};
 use std::alloc::{AllocError, Global};
 use std::test::Fail;
+use vt_top::Status;
 
 // No front of the text that ends before one of its blanks is a program, and the text is one. What is read so
 // far has a blank at each end, so its length is the column that comes after its last token.
@@ -171,12 +170,6 @@ fn chains_of_each_operator_have_one_limit(rt: HostRuntime) -> Result<(), Fail> {
     Ok(())
 }
 
-// This is answered of the file.
-fn answers(alloc: Global, file: &str, status: Status, text: &str) -> Result<bool, AllocError> {
-    let (own, sink) = answer(alloc, &["type", "f"], file.as_bytes())?;
-    Ok(own == status && sink.bytes() == text.as_bytes())
-}
-
 #[test]
 fn files_of_260000_bytes_are_answered(rt: HostRuntime) -> Result<(), Fail> {
     let alloc = rt.alloc();
@@ -211,7 +204,11 @@ fn files_of_260000_bytes_are_answered(rt: HostRuntime) -> Result<(), Fail> {
         ("", "# a\r\n", 52000, "1", Status::Done, "Int\n"),
     ] {
         let file = repeated(alloc, first, more, count, last)?;
-        assert!(rt; answers(alloc, &file, status, text)?, "{more}");
+        let (file, text) = (file.as_bytes(), text.as_bytes());
+        assert!(rt;
+            answers(alloc, &["type", "f"], file, status, text)?,
+            "{more}"
+        );
     }
     Ok(())
 }

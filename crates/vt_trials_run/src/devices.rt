@@ -1,6 +1,6 @@
-use crate::{FetchFault, Fetched, Files, HostFiles, HostSink, MemFiles, MemSink, Sink};
 use std::fs;
 use std::test::Fail;
+use vt_io::{FetchFault, Fetched, Files, HostFiles, HostSink, MemFiles, MemSink, Sink};
 
 fn is_whole(fetched: &Result<Fetched, FetchFault>, bytes: &[u8]) -> bool {
     match fetched {
