@@ -5,7 +5,7 @@ use Rattle.std.proofs.lemmas.Nat.Bits.{bit_at_and, bit_at-zero, bit_at_mask_insi
 use Rattle.std.proofs.lemmas.Option.{slice_get-get_or, get_or_from_slice_get, slice_get_within}
 use Rattle.std.proofs.Math.Facts.{Fits-and_r}
 use Rattle.std.specs.Int.{bit_at, trailing_zeros, w64}
-use Rattle.vt_dec.specs.Words.{members, AreWords, IsNext}
+use Rattle.vt_dec.specs.Words.{members, AreWords, IsNextMember}
 use Rattle.vt_dec.proofs.WordBits.{length-members, get_or-members}
 
 bit_of_member : (words : List ℕ) (dim : ℕ) → slice_get (members words) dim ≡ Some true → bit_at (get_or words (dim / 64) 0) (dim % 64) ≡ 1
@@ -13,11 +13,11 @@ bit_of_member words dim member =
     let within : dim < length (members words) = slice_get_within (members words) dim true member in
     eqb-true _ _ (sym (get_or-members words dim (omega (arith, length-members words))) ∙ get_or_from_slice_get (members words) dim true false member)
 
-member_of_bit : (words : List ℕ) (index place : ℕ) → index < length words → place < 64 → bit_at (get_or words index 0) place ≡ 1 → slice_get (members words) (64 * index + place) ≡ Some true
-member_of_bit words index place within low set =
-    let dim = 64 * index + place in
+member_of_bit : (words : List ℕ) (index offset : ℕ) → index < length words → offset < 64 → bit_at (get_or words index 0) offset ≡ 1 → slice_get (members words) (64 * index + offset) ≡ Some true
+member_of_bit words index offset within low set =
+    let dim = 64 * index + offset in
     let at : dim / 64 ≡ index = omega arith in
-    let rest : dim % 64 ≡ place = omega arith in
+    let rest : dim % 64 ≡ offset = omega arith in
     let inside : dim < 64 * length words = omega arith in
     slice_get-get_or (members words) dim false (omega (arith, length-members words))
     ∙ ap Some (get_or-members words dim inside ∙ (λ k. eqb (bit_at (get_or words (at k) 0) (rest k)) 1) ∙ ap (λ bit. eqb bit 1) set)
@@ -47,27 +47,27 @@ module _ (words : List ℕ) (from index mask : ℕ) (hides : mask ≡ 2 ^ 64 - 2
   pub first_in_word : (n : ℕ) → AreWords n words → index < n → from < 64 * (index + 1)
       → ((dim : ℕ) → from ≤ dim → dim < 64 * index → slice_get (members words) dim ≡ Some true → ⊥)
       → (bit_and (get_or words index 0) mask ≡ 0 → ⊥)
-      → IsNext (members words) from (Some (64 * index + trailing_zeros w64 (bit_and (get_or words index 0) mask)))
+      → IsNextMember (members words) from (Some (64 * index + trailing_zeros w64 (bit_and (get_or words index 0) mask)))
   first_in_word n held inside near before some =
       let word = get_or words index 0 in
       let found = bit_and word mask in
-      let place = trailing_zeros w64 found in
+      let offset = trailing_zeros w64 found in
       let fits : Fits w64 mask = record { fits = omega (arith, pow_pos (from - 64 * index)) } in
       let both : Fits w64 found = Fits-and_r word fits in
       let positive : 0 < found = omega (arith, some) in
       let lowest = bit_at-trailing_zeros w64 found positive both.fits in
-      let both_set : min (bit_at word place) (bit_at mask place) ≡ 1 = sym (bit_at_and word mask place) ∙ lowest.1 in
-      let after : from ≤ 64 * index + place =
-      elim (cases_lt place (from - 64 * index)) [
-        | inl hidden ↦ absurd (omega (arith, both_set, ap (λ m. bit_at m place) hides, bit_at_mask_below (from - 64 * index) 64 place hidden))
+      let both_set : min (bit_at word offset) (bit_at mask offset) ≡ 1 = sym (bit_at_and word mask offset) ∙ lowest.1 in
+      let after : from ≤ 64 * index + offset =
+      elim (cases_lt offset (from - 64 * index)) [
+        | inl hidden ↦ absurd (omega (arith, both_set, ap (λ m. bit_at m offset) hides, bit_at_mask_below (from - 64 * index) 64 offset hidden))
         | inr shown ↦ omega arith
       ]
       in (
         after,
-        member_of_bit words index place (omega (arith, held.long)) lowest.0 (omega (arith, both_set, bit_at-lt word place, bit_at-lt mask place)),
+        member_of_bit words index offset (omega (arith, held.long)) lowest.0 (omega (arith, both_set, bit_at-lt word offset, bit_at-lt mask offset)),
         λ dim from_on short member.
             elim (cases_lt dim (64 * index)) [
               | inl early ↦ before dim from_on early member
-              | inr late ↦ passed place (omega (arith, lowest.0)) lowest.2 dim from_on late short member
+              | inr late ↦ passed offset (omega (arith, lowest.0)) lowest.2 dim from_on late short member
             ],
       )

@@ -1,6 +1,6 @@
 use Rattle.std.proofs.Common.{◌≡◌, ℕ, zero, suc, ◌<◌, List, [], ◌∷◌, Some, length, set, slice_get, refl, ap, arith}
 
--- What stands at a place of a list, after a change.
+-- What stands at an index of a list, after a change.
 
 pub slice_get-set_same : {X : Type 0} (xs : List X) (k : ℕ) (x : X) → k < length xs → slice_get (set xs k x) k ≡ Some x
 slice_get-set_same [] k x within = absurd (omega arith)

@@ -48,16 +48,16 @@ get_or-members (word ∷ words) dim within =
     elim (cases_lt dim 64) [
       | inl low ↦
           let first : dim / 64 ≡ 0 = omega arith in
-          let place : dim % 64 ≡ dim = omega arith in
+          let offset : dim % 64 ≡ dim = omega arith in
           get_or_append_left (bits_of 64 word) (members words) false dim (omega (arith, length-bits_of 64 word))
           ∙ get_or-bits_of 64 word dim low
-          ∙ sym (λ k. eqb (bit_at (get_or (word ∷ words) (first k) 0) (place k)) 1)
+          ∙ sym (λ k. eqb (bit_at (get_or (word ∷ words) (first k) 0) (offset k)) 1)
       | inr high ↦
           let later : dim / 64 ≡ suc ((dim - 64) / 64) = omega arith in
-          let place : dim % 64 ≡ (dim - 64) % 64 = omega arith in
+          let offset : dim % 64 ≡ (dim - 64) % 64 = omega arith in
           get_or-append_right (bits_of 64 word) (members words) 64 dim false (length-bits_of 64 word) high
           ∙ get_or-members words (dim - 64) (omega arith)
-          ∙ sym (λ k. eqb (bit_at (get_or (word ∷ words) (later k) 0) (place k)) 1)
+          ∙ sym (λ k. eqb (bit_at (get_or (word ∷ words) (later k) 0) (offset k)) 1)
     ]
 
 pub members-replicate : (n : ℕ) → members (replicate n 0) ≡ replicate (64 * n) false
@@ -71,37 +71,37 @@ members-replicate (suc n) =
     let more : 64 * suc n ≡ 64 + 64 * n = omega arith in
     (λ k. none k ++ members-replicate n k) ∙ replicate-append-replicate 64 (64 * n) false ∙ ap (λ m. replicate m false) (sym more)
 
--- a write of one word that changes its bit at a place to this one
-pub record ChangesBit (old new place : ℕ) (bit : Bool) : Type 0 where
-  pub at : eqb (bit_at new place) 1 ≡ bit
-  pub others : (i : ℕ) → i < 64 → i ≢ place → bit_at new i ≡ bit_at old i
+-- a write of one word that changes its bit at a offset to this one
+pub record ChangesBit (old new offset : ℕ) (bit : Bool) : Type 0 where
+  pub at : eqb (bit_at new offset) 1 ≡ bit
+  pub others : (i : ℕ) → i < 64 → i ≢ offset → bit_at new i ≡ bit_at old i
 
-bits_of_changed : (old new place : ℕ) (bit : Bool) → place < 64 → ChangesBit old new place bit → bits_of 64 new ≡ set (bits_of 64 old) place bit
-bits_of_changed old new place bit within changes =
-    bits_of_same 64 new (set (bits_of 64 old) place bit) (length-set (bits_of 64 old) place bit ∙ length-bits_of 64 old) (λ i low.
-    elim (cases_eq i place) [
+bits_of_changed : (old new offset : ℕ) (bit : Bool) → offset < 64 → ChangesBit old new offset bit → bits_of 64 new ≡ set (bits_of 64 old) offset bit
+bits_of_changed old new offset bit within changes =
+    bits_of_same 64 new (set (bits_of 64 old) offset bit) (length-set (bits_of 64 old) offset bit ∙ length-bits_of 64 old) (λ i low.
+    elim (cases_eq i offset) [
       | inl here ↦
           (λ k. eqb (bit_at new (here k)) 1) ∙ changes.at
-          ∙ sym ((λ k. get_or (set (bits_of 64 old) place bit) (here k) false) ∙ get_or-set_same (bits_of 64 old) place bit false (omega (arith, length-bits_of 64 old)))
+          ∙ sym ((λ k. get_or (set (bits_of 64 old) offset bit) (here k) false) ∙ get_or-set_same (bits_of 64 old) offset bit false (omega (arith, length-bits_of 64 old)))
       | inr there ↦
           ap (λ b. eqb b 1) (changes.others i low there) ∙ sym (get_or-bits_of 64 old i low)
-          ∙ sym (get_or-set_other (bits_of 64 old) place i bit false there)
+          ∙ sym (get_or-set_other (bits_of 64 old) offset i bit false there)
     ])
 
-pub members-set : (words : List ℕ) (at place new : ℕ) (bit : Bool) → at < length words → place < 64 → ChangesBit (get_or words at 0) new place bit
-    → members (set words at new) ≡ set (members words) (64 * at + place) bit
+pub members-set : (words : List ℕ) (at offset new : ℕ) (bit : Bool) → at < length words → offset < 64 → ChangesBit (get_or words at 0) new offset bit
+    → members (set words at new) ≡ set (members words) (64 * at + offset) bit
 unfolding members
-members-set [] at place new bit inside within changes = absurd (omega arith)
-members-set (word ∷ words) zero place new bit inside within changes =
-    let here : 64 * 0 + place ≡ place = omega arith in
-    ap (λ bits. bits ++ members words) (bits_of_changed word new place bit within changes)
-    ∙ sym (set-append_left (bits_of 64 word) (members words) place bit (omega (arith, length-bits_of 64 word)))
+members-set [] at offset new bit inside within changes = absurd (omega arith)
+members-set (word ∷ words) zero offset new bit inside within changes =
+    let here : 64 * 0 + offset ≡ offset = omega arith in
+    ap (λ bits. bits ++ members words) (bits_of_changed word new offset bit within changes)
+    ∙ sym (set-append_left (bits_of 64 word) (members words) offset bit (omega (arith, length-bits_of 64 word)))
     ∙ ap (λ p. set (members (word ∷ words)) p bit) (sym here)
-members-set (word ∷ words) (suc at) place new bit inside within changes =
-    let back : (64 * suc at + place) - 64 ≡ 64 * at + place = omega arith in
-    ap (λ rest. bits_of 64 word ++ rest) (members-set words at place new bit (omega arith) within changes)
+members-set (word ∷ words) (suc at) offset new bit inside within changes =
+    let back : (64 * suc at + offset) - 64 ≡ 64 * at + offset = omega arith in
+    ap (λ rest. bits_of 64 word ++ rest) (members-set words at offset new bit (omega arith) within changes)
     ∙ ap (λ p. bits_of 64 word ++ set (members words) p bit) (sym back)
-    ∙ sym (set-append_right (bits_of 64 word) (members words) 64 (64 * suc at + place) bit (length-bits_of 64 word) (omega arith))
+    ∙ sym (set-append_right (bits_of 64 word) (members words) 64 (64 * suc at + offset) bit (length-bits_of 64 word) (omega arith))
 
 -- ---- the bit of one dimension
 
@@ -117,13 +117,13 @@ members-set_at words dim new bit within changes =
     let whole : 64 * (dim / 64) + dim % 64 ≡ dim = omega arith in
     members-set words (dim / 64) (dim % 64) new bit (omega arith) (omega arith) changes ∙ ap (λ d. set (members words) d bit) whole
 
--- the word with the bit at a place set
+-- the word with the bit at a offset set
 abbrev pub with_bit : ℕ → ℕ → ℕ
-with_bit word place = bit_or word (1 * 2 ^ place % 2 ^ bits w64)
+with_bit word offset = bit_or word (1 * 2 ^ offset % 2 ^ bits w64)
 
--- the word with the bit at a place cleared
+-- the word with the bit at a offset cleared
 abbrev pub with_no_bit : ℕ → ℕ → ℕ
-with_no_bit word place = bit_and word (bit_not w64 (1 * 2 ^ place % 2 ^ bits w64))
+with_no_bit word offset = bit_and word (bit_not w64 (1 * 2 ^ offset % 2 ^ bits w64))
 
 pub members-set_with_bit : (words : List ℕ) (dim : ℕ) → dim < 64 * length words
     → members (set words (dim / 64) (with_bit (get_or words (dim / 64) 0) (dim % 64))) ≡ set (members words) dim true
@@ -157,8 +157,8 @@ AreWords-set n words at new held fits = record {
   ];
 }
 
-pub Fits-with_bit : (word place : ℕ) → Fits w64 word → Fits w64 (with_bit word place)
-Fits-with_bit word place fits = let power : Fits w64 (1 * 2 ^ place % 2 ^ bits w64) = record { fits = omega arith } in Fits-or fits power
+pub Fits-with_bit : (word offset : ℕ) → Fits w64 word → Fits w64 (with_bit word offset)
+Fits-with_bit word offset fits = let power : Fits w64 (1 * 2 ^ offset % 2 ^ bits w64) = record { fits = omega arith } in Fits-or fits power
 
 -- ---- how many
 

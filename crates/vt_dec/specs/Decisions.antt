@@ -4,7 +4,7 @@ use Rattle.vt_dec.specs.declared.side.Side.TheVariants.{Left, Right}
 use Rattle.vt_dec.specs.declared.side.Space.{Space}
 use Rattle.vt_dec.specs.declared.side.Space.TheVariants.{All, AtMost}
 
--- A decision is the list of its sides: dimension n has the side at place n.
+-- A decision is the list of its sides: dimension n has the side at index n.
 
 -- how many dimensions a decision takes Right
 abbrev pub rights : List Side → ℕ
@@ -96,7 +96,7 @@ IsKeptIn (AtMost k) decided = IsWithin k decided
 abbrev pub IsKept : Region → Type 0
 IsKept region = IsKeptIn region.space region.sides
 
--- the first dimension from a place on that the context decides itself, or none
+-- the first dimension from a number on that the context decides itself, or none
 abbrev pub IsNextDecided : Region → ℕ → Option (ℕ × Side) → Type 0
 IsNextDecided region from None = (dim : ℕ) (side : Side) → from ≤ dim → Decides region dim side → ⊥
 IsNextDecided region from (Some found) =

@@ -25,8 +25,8 @@ pub record AreWords (n : ℕ) (words : List ℕ) : Type 0 where
   pub long : length words ≡ n
   pub fit : (k : ℕ) → Fits w64 (get_or words k 0)
 
--- the first member from a place on, or none
-abbrev pub IsNext : List Bool → ℕ → Option ℕ → Type 0
-IsNext set from None = (dim : ℕ) → from ≤ dim → slice_get set dim ≡ Some true → ⊥
-IsNext set from (Some found) =
+-- the first member from a number on, or none
+abbrev pub IsNextMember : List Bool → ℕ → Option ℕ → Type 0
+IsNextMember set from None = (dim : ℕ) → from ≤ dim → slice_get set dim ≡ Some true → ⊥
+IsNextMember set from (Some found) =
     (from ≤ found) × (slice_get set found ≡ Some true) × ((dim : ℕ) → from ≤ dim → dim < found → slice_get set dim ≡ Some true → ⊥)

@@ -6,7 +6,7 @@ use crate::dim_set::DimSet;
 use crate::{Decision, Dim, Side, Space};
 use std::marker::Model;
 
-/// A part of a space: its decisions that agree with what is decided. It always has one.
+/// The decisions of a space that agree with what is decided. There always is one.
 ///
 /// Copying it is a plain copy. `with`, `half`, `side` and `next_decided` look at one word or at each word
 /// once, whatever the number of dimensions.
@@ -67,12 +67,12 @@ impl<const N: usize> Context<N> {
         ensures sized { length self.now.sides ≡ 64 * N }
         ensures kept { IsKept self.now }
     {
-        let _space = self.space;
+        let _ = &self.space;
     }
 
-    /// The space that the context is a part of.
+    /// The space whose decisions the context narrows down.
     pub fn space(&self) -> Space
-        ensures part { result ≡ self.now.space }
+        ensures space { result ≡ self.now.space }
         ensures sized { length self.now.sides ≡ 64 * N }
         ensures kept { IsKept self.now }
     {
@@ -112,7 +112,7 @@ impl<const N: usize> Context<N> {
     {
         match self.side(dim) {
             None => Some(self.half(dim, side)),
-            Some(own) if own == side => Some(*self),
+            Some(taken) if taken == side => Some(*self),
             Some(_) => None,
         }
     }

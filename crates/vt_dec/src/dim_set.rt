@@ -1,5 +1,5 @@
 ghost use Rattle.std.specs.Prelude.{◌≡◌, ℕ, ◌*◌, ◌/◌, ◌%◌, ◌^◌, ◌<◌, ◌≤◌, ◌↔◌, ◌&&◌, ◌||◌, IsTrue, Some, true, false, length, slice_get, slice_set, replicate, count_by};
-ghost use Rattle.vt_dec.specs.Words.{IsNext};
+ghost use Rattle.vt_dec.specs.Words.{IsNextMember};
 ghost use lib.Lanes.{zip2};
 
 use crate::Dim;
@@ -43,7 +43,7 @@ impl<const N: usize> DimSet<N> {
         requires { dim < 64 * N }
         ensures { slice_get self.now dim ≡ Some result }
     {
-        (self.words[word_of(dim)] >> place_of(dim)) & 1 == 1
+        (self.words[index_of(dim)] >> offset_of(dim)) & 1 == 1
     }
 
     pub(crate) fn insert(&mut self, dim: Dim)
@@ -51,14 +51,14 @@ impl<const N: usize> DimSet<N> {
         ensures inserted { self.new ≡ slice_set self.old dim true }
         ensures low { dim < 2 ^ 32 }
     {
-        self.words[word_of(dim)] |= 1 << place_of(dim);
+        self.words[index_of(dim)] |= 1 << offset_of(dim);
     }
 
     pub(crate) fn remove(&mut self, dim: Dim)
         requires { dim < 64 * N }
         ensures { self.new ≡ slice_set self.old dim false }
     {
-        self.words[word_of(dim)] &= !(1 << place_of(dim));
+        self.words[index_of(dim)] &= !(1 << offset_of(dim));
     }
 
     /// Looks no further than the word in which the bound is passed.
@@ -76,13 +76,13 @@ impl<const N: usize> DimSet<N> {
         true
     }
 
-    /// What of `whole` is in this set is `part`.
-    pub(crate) fn cuts(&self, whole: &DimSet<N>, part: &DimSet<N>) -> bool
+    /// What of `whole` is in this set is `kept`.
+    pub(crate) fn cuts(&self, whole: &DimSet<N>, kept: &DimSet<N>) -> bool
         ensures sized { length whole.now ≡ length self.now }
-        ensures cut { IsTrue result ↔ (zip2 (λ one other. one && other) whole.now self.now ≡ part.now) }
+        ensures cut { IsTrue result ↔ (zip2 (λ one other. one && other) whole.now self.now ≡ kept.now) }
     {
         for index in 0..N {
-            if whole.words[index] & self.words[index] != part.words[index] {
+            if whole.words[index] & self.words[index] != kept.words[index] {
                 return false;
             }
         }
@@ -102,10 +102,10 @@ impl<const N: usize> DimSet<N> {
     /// The first dimension of the set from `from` on.
     pub(crate) fn next(&self, from: Dim) -> Option<Dim>
         requires low { (dim : ℕ) → slice_get self.now dim ≡ Some true → dim < 2 ^ 32 }
-        ensures { IsNext self.now from result }
+        ensures { IsNextMember self.now from result }
     {
-        let mut mask = u64::MAX << place_of(from);
-        for index in word_of(from)..N {
+        let mut mask = u64::MAX << offset_of(from);
+        for index in index_of(from)..N {
             let word = self.words[index] & mask;
             if word != 0 {
                 return Some(Dim(64 * index as u32 + word.trailing_zeros()));
@@ -117,15 +117,15 @@ impl<const N: usize> DimSet<N> {
 }
 
 // Which word has the bit of the dimension.
-fn word_of(dim: Dim) -> usize
-    ensures word { result ≡ dim / 64 }
+fn index_of(dim: Dim) -> usize
+    ensures index { result ≡ dim / 64 }
     ensures low { dim < 2 ^ 32 }
 {
     (dim.0 / 64) as usize
 }
 
 // Which bit of the word it is.
-fn place_of(dim: Dim) -> u32
+fn offset_of(dim: Dim) -> u32
     ensures { result ≡ dim % 64 }
 {
     dim.0 % 64

@@ -26,7 +26,7 @@ use Rattle.vt_scope.specs.Faults.{dims_of}
 use Rattle.vt_scope.specs.Cores.{IsCoreProgram}
 use Rattle.vt_scope.proofs.OneCore.{one_core}
 use Rattle.vt_report.specs.declared.refusal.Refusal.{Refusal}
-use Rattle.vt_report.specs.declared.refusal.Refusal.TheVariants.{TooLong, NotText, BadCharacter, OpenString, BigNumber, Unexpected, TooDeep, Unbound, TooManyDimensions, TooBigPart}
+use Rattle.vt_report.specs.declared.refusal.Refusal.TheVariants.{TooLong, NotText, BadCharacter, OpenString, BigNumber, Unexpected, TooDeep, Unbound, TooManyDimensions, BadDecision, UnknownDimension, NotPlain, TooManyLeaves, TooBigPart, TooBigChange}
 use Rattle.vt_file.specs.Files.{IsProgramOf, scope_fault, IsCoreOf}
 use Rattle.vt_file.specs.Refusals.{IsTokenAt, IsNoProgram}
 
@@ -179,7 +179,12 @@ stops bytes (Unexpected at spelling) (tokens, k, within, are, is, named) = unrea
 stops bytes (TooDeep at) (tokens, k, t, within, are, is, e, place) = unread bytes tokens (parse.TooDeep k) within are (λ e. cc) is
 stops bytes (Unbound at name) (tokens, program, span, read, e, place, named) = out bytes tokens program (scope.Unbound span) read e
 stops bytes (TooManyDimensions at) (tokens, program, span, read, e, place) = out bytes tokens program (scope.TooManyDimensions span) read e
+stops bytes BadDecision h = absurd h
+stops bytes (UnknownDimension name) h = absurd h
+stops bytes (NotPlain name) h = absurd h
+stops bytes TooManyLeaves h = absurd h
 stops bytes (TooBigPart name) h = absurd h
+stops bytes (TooBigChange at) h = absurd h
 
 rank_below : (bytes : List ℕ) (r : Refusal) → IsNoProgram bytes r → rank r < 5
 rank_below bytes TooLong h = lit< tt
@@ -191,7 +196,12 @@ rank_below bytes (Unexpected at spelling) h = lit< tt
 rank_below bytes (TooDeep at) h = lit< tt
 rank_below bytes (Unbound at name) h = lit< tt
 rank_below bytes (TooManyDimensions at) h = lit< tt
+rank_below bytes BadDecision h = absurd h
+rank_below bytes (UnknownDimension name) h = absurd h
+rank_below bytes (NotPlain name) h = absurd h
+rank_below bytes TooManyLeaves h = absurd h
 rank_below bytes (TooBigPart name) h = absurd h
+rank_below bytes (TooBigChange at) h = absurd h
 
 -- A file that gives no program in scope has no core.
 pub never_refused : (bytes : List ℕ) (r : Refusal) (program : Program) (core : CoreProgram) → IsNoProgram bytes r → IsCoreOf bytes program core → ⊥
@@ -250,8 +260,18 @@ same_refusal bytes (TooManyDimensions at) (TooManyDimensions by) e (ts, p, x, re
     let same = program_once bytes ts us p q read also in
     let span : x ≡ y = cc (same_Some (scope.TooManyDimensions x) (scope.TooManyDimensions y) (sym f ∙ ap scope_fault same ∙ g)) in
     ap TooManyDimensions (one_place bytes y.start at by (subst (λ z. IsPlace bytes z.start at) span place) there)
+same_refusal bytes BadDecision s e h k = absurd h
+same_refusal bytes (UnknownDimension name) s e h k = absurd h
+same_refusal bytes (NotPlain name) s e h k = absurd h
+same_refusal bytes TooManyLeaves s e h k = absurd h
 same_refusal bytes (TooBigPart name) s e h k = absurd h
+same_refusal bytes (TooBigChange at) s e h k = absurd h
+same_refusal bytes r BadDecision e h k = absurd k
+same_refusal bytes r (UnknownDimension name) e h k = absurd k
+same_refusal bytes r (NotPlain name) e h k = absurd k
+same_refusal bytes r TooManyLeaves e h k = absurd k
 same_refusal bytes r (TooBigPart name) e h k = absurd k
+same_refusal bytes r (TooBigChange at) e h k = absurd k
 same_refusal bytes r s e h k = absurd (omega arith)
 
 pub one_refusal : (bytes : List ℕ) (r s : Refusal) → IsNoProgram bytes r → IsNoProgram bytes s → r ≡ s

@@ -43,7 +43,7 @@ module _ (constants : List Constant) (program : Program) (core : CoreProgram) (l
     read = read;
     in_scope = subst (λ K. first_fault [] (program_events K program) ≡ None) table none;
     core_is = subst (λ K. IsCoreProgram K (dims_of program) program core leaves) table is;
-    named = named;
+    dims_are = named;
   }
 
   pub typable : (HasImplied constants → IsClosed (length constants) (length dims) core) → length dims ≤ most_dimensions → IsInCheckingOrder core → IsTypable core (length dims)

@@ -45,7 +45,7 @@ pub record IsSourceOf (bytes : List ℕ) (program : Program) (core : CoreProgram
   pub read : IsProgramOf bytes tokens program
   pub in_scope : scope_fault program ≡ None
   pub core_is : IsCoreProgram core_constants (dims_of program) program core leaves
-  pub named : dims ≡ dims_of program
+  pub dims_are : dims ≡ dims_of program
 
 -- what inference asks of a core, over so many dimensions
 pub record IsTypable (core : CoreProgram) (dims : ℕ) : Type 0 where

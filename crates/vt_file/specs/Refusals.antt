@@ -27,7 +27,7 @@ IsTokenAt text None at spelling = IsPlace text (length text) at × (spelling ≡
 abbrev pub IsNoProgram : List ℕ → Refusal → Type 0
 -- more bytes than a file may have
 IsNoProgram bytes TooLong = most_bytes < length bytes
--- no text: so many bytes are the longest front that is one
+-- no text: so many bytes are the longest prefix that is one
 IsNoProgram bytes (NotText at) = (length bytes ≤ most_bytes) × IsValidUpTo bytes at
 -- a text without tokens: the first place at which none stands
 IsNoProgram bytes (BadCharacter at) =

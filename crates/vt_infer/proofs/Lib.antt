@@ -8,6 +8,7 @@ pub mod FunStep
 pub mod LetStep
 pub mod LetRecSteps
 pub mod FormSteps
+pub mod MarkedSteps
 pub mod Extending
 pub mod StoreSteps
 pub mod GoingOn

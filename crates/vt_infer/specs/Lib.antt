@@ -1,6 +1,7 @@
 pub mod Places
 pub mod Numbered
 pub mod Steps
+pub mod Wanted
 pub mod Environments
 pub mod Inferring
 pub mod Building

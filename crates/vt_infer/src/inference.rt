@@ -30,8 +30,7 @@ pub fn infer<const N: usize>(
     requires width { N ≤ 64 }
     ensures inferred { IfOk result (λ typed. IsInferred N constants.now core.now space typed) }
 {
-    // What it ensures is that the constants are a table.
-    let _constants = constants.len();
+    constants.coherent();
     let within = Context::whole(space);
     let mut work = started(alloc, space);
     let mut marks = Marks::new(Vec::new(alloc));

@@ -3,7 +3,7 @@ ghost use Rattle.std.specs.Io.KnownBytes.{Appends};
 ghost use Rattle.vt_io.specs.Counts.{Rose, Advances};
 ghost use Rattle.vt_io.specs.Host.{never_sure};
 ghost use Rattle.vt_io.specs.Memory.{raised};
-ghost use Rattle.vt_io.specs.Written.{Grows, GrowsByFront};
+ghost use Rattle.vt_io.specs.Written.{GrowsBy, GrowsByPrefix};
 
 use crate::{Sink, SinkFailed};
 use std::io;
@@ -44,8 +44,8 @@ impl<'a, R: Print> Sink for HostSink<'a, R> {
     ghost sure = { never_sure };
 
     fn put(&mut self, bytes: &[u8]) -> Result<(), SinkFailed>
-        ensures written { OnOk result (Grows None None bytes.now) }
-        ensures cut_off { OnErr result (GrowsByFront None None bytes.now) }
+        ensures written { OnOk result (GrowsBy None None bytes.now) }
+        ensures cut_off { OnErr result (GrowsByPrefix None None bytes.now) }
         ensures failed { OnErr result (Rose self.old self.new) }
 
         ensures never_falls { self.old ≤ self.new }

@@ -2,7 +2,7 @@ ghost use Rattle.std.specs.Prelude.{◌≡◌, ◌≤◌, ◌↔◌, [], None, S
 ghost use Rattle.vt_io.specs.Counts.{Rose, Advances};
 ghost use Rattle.vt_io.specs.Memory.{raised, told};
 ghost use Rattle.vt_io.specs.MemorySink.{after_put, allowance, is_set_to_fail, sure_of, takes_all};
-ghost use Rattle.vt_io.specs.Written.{Grows, GrowsByFront};
+ghost use Rattle.vt_io.specs.Written.{GrowsBy, GrowsByPrefix};
 
 use crate::{Sink, SinkFailed};
 use std::alloc::{AllocError, Global};
@@ -92,8 +92,8 @@ impl Sink for MemSink {
     ghost sure = { sure_of };
 
     fn put(&mut self, bytes: &[u8]) -> Result<(), SinkFailed>
-        ensures written { OnOk result (Grows (Some self.old.written) (Some self.new.written) bytes.now) }
-        ensures cut_off { OnErr result (GrowsByFront (Some self.old.written) (Some self.new.written) bytes.now) }
+        ensures written { OnOk result (GrowsBy (Some self.old.written) (Some self.new.written) bytes.now) }
+        ensures cut_off { OnErr result (GrowsByPrefix (Some self.old.written) (Some self.new.written) bytes.now) }
         ensures failed { OnErr result (Rose self.old.faults self.new.faults) }
 
         ensures never_falls { self.old.faults ≤ self.new.faults }

@@ -1,10 +1,10 @@
 ghost use Rattle.std.specs.Prelude.{◌≡◌, ◌≤◌, List, ℕ, Option, length, IfSome, OnOk, OnErr};
 ghost use Rattle.vt_io.specs.Counts.{Rose, Advances};
-ghost use Rattle.vt_io.specs.Written.{Grows, GrowsByFront};
+ghost use Rattle.vt_io.specs.Written.{GrowsBy, GrowsByPrefix};
 
 use thiserror::Error;
 
-/// A put that wrote only the front of its bytes.
+/// A put that wrote only a prefix of its bytes.
 #[derive(Debug, Drop, Error)]
 #[error("the output could not be written")]
 pub struct SinkFailed;
@@ -23,10 +23,10 @@ pub trait Sink {
     /// How many bytes the next put is sure to take, where this is told.
     ghost sure: { Self → Option ℕ };
 
-    /// Writes all the bytes, or a front of them.
+    /// Writes all the bytes, or a prefix of them.
     fn put(&mut self, bytes: &[u8]) -> Result<(), SinkFailed>
-        ensures written { OnOk result (Grows (written self.old) (written self.new) bytes.now) }
-        ensures cut_off { OnErr result (GrowsByFront (written self.old) (written self.new) bytes.now) }
+        ensures written { OnOk result (GrowsBy (written self.old) (written self.new) bytes.now) }
+        ensures cut_off { OnErr result (GrowsByPrefix (written self.old) (written self.new) bytes.now) }
         ensures failed { OnErr result (Rose (faults self.old) (faults self.new)) }
 
         ensures never_falls { faults self.old ≤ faults self.new }

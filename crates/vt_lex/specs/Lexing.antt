@@ -3,7 +3,7 @@ use Rattle.std.specs.Str.{all_scalars}
 use Rattle.vt_lex.specs.declared.token.Token.{Token}
 use Rattle.vt_lex.specs.declared.fault.LexFault.{LexFault}
 use Rattle.vt_lex.specs.declared.fault.LexFault.TheVariants.{BadCharacter, OpenString, BigNumber, Memory}
-use Rattle.vt_lex.specs.Tokens.{Spelled, IsBigNumber, IsPiece}
+use Rattle.vt_lex.specs.Tokens.{quote, Spelled, IsBigNumber, IsPiece}
 
 -- The list of tokens of a text, on its characters; places are counted in bytes of UTF-8.
 
@@ -69,10 +69,10 @@ pub data Misses : ℕ → List ℕ → LexFault → Type 0 where
       → IsGap gap (cs ++ rest) → IsLongest cs rest → IsBigNumber cs
       → Misses at (gap ++ (cs ++ rest)) (BigNumber (record { start = at + byte_count gap; end = at + byte_count gap + byte_count cs }))
   open_string : (at : ℕ) (gap rest : List ℕ)
-      → IsGap gap (34 ∷ rest) → HasNoPiece (34 ∷ rest)
-      → Misses at (gap ++ (34 ∷ rest)) (OpenString (at + byte_count gap))
+      → IsGap gap (quote ∷ rest) → HasNoPiece (quote ∷ rest)
+      → Misses at (gap ++ (quote ∷ rest)) (OpenString (at + byte_count gap))
   bad_character : (at : ℕ) (gap : List ℕ) (c : ℕ) (rest : List ℕ)
-      → IsGap gap (c ∷ rest) → BeginsNoGap c → c ≢ 34 → HasNoPiece (c ∷ rest)
+      → IsGap gap (c ∷ rest) → BeginsNoGap c → c ≢ quote → HasNoPiece (c ∷ rest)
       → Misses at (gap ++ (c ∷ rest)) (BadCharacter (at + byte_count gap))
 
 -- the characters of a text

@@ -13,7 +13,7 @@ use Rattle.vt_lex.specs.declared.token.Sign.TheVariants.{Arrow, Colons, ParenOpe
 use Rattle.vt_lex.specs.declared.token.Token.{Token}
 use Rattle.vt_lex.specs.declared.token.TokenKind.{TokenKind}
 use Rattle.vt_lex.specs.declared.token.TokenKind.TheVariants as kind
-use Rattle.vt_lex.specs.Tokens.{key_text, sign_text, number_after, largest_number, Spelled}
+use Rattle.vt_lex.specs.Tokens.{key_text, sign_text, quote, backslash, line_feed, at_sign, number_after, largest_number, Spelled}
 use Rattle.vt_lex.specs.Lexing.{byte_count, IsGap, IsLongest}
 
 -- Reading on lists: what each step of the lexer answers. That it is what `Lexes` and `Misses` say is a
@@ -26,7 +26,7 @@ is_blank c = c == 32 || c == 9 || c == 10 || c == 13
 -- how many characters the gap at the front has; inside a comment or not
 abbrev pub gap_length : Bool → List ℕ → ℕ
 gap_length inside [] = 0
-gap_length true (c ∷ cs) = 1 + gap_length (not (c == 10)) cs
+gap_length true (c ∷ cs) = 1 + gap_length (not (c == line_feed)) cs
 gap_length false (c ∷ cs) = if c == 35 then 1 + gap_length true cs else (if is_blank c then 1 + gap_length false cs else 0)
 
 -- the test of a name's first character
@@ -42,8 +42,8 @@ word_length (c ∷ cs) = if is_name_start c then 1 + prefix_len is_xid_continue 
 abbrev pub string_length : Bool → List ℕ → Option ℕ
 string_length escaped [] = None
 string_length escaped (c ∷ cs) =
-    if c == 10 then None
-    else (if not escaped && c == 34 then Some 1 else option_map (λ n. 1 + n) (string_length (not escaped && c == 92) cs))
+    if c == line_feed then None
+    else (if not escaped && c == quote then Some 1 else option_map (λ n. 1 + n) (string_length (not escaped && c == backslash) cs))
 
 -- the reserved words
 abbrev pub keys : List Key
@@ -96,8 +96,8 @@ sign_front (Some sign) = front.Token (kind.Sign sign) (length (sign_text sign))
 abbrev pub front_of : List ℕ → Front
 front_of [] = front.Nothing
 front_of (c ∷ cs) =
-    if c == 34 then string_front (string_length false cs)
-    else (if c == 64 then dimension_front (word_length cs)
+    if c == quote then string_front (string_length false cs)
+    else (if c == at_sign then dimension_front (word_length cs)
     else (if is_ascii_digit c then number_front (number_of (take_while is_ascii_digit (c ∷ cs))) (prefix_len is_ascii_digit (c ∷ cs))
     else (if is_name_start c then word_front (c ∷ cs) (word_length (c ∷ cs))
     else sign_front (sign_at (c ∷ cs)))))

@@ -66,18 +66,30 @@ abbrev pub IsNumber : List ℕ → ℕ → Type 0
 IsNumber [] value = ⊥
 IsNumber (digit ∷ digits) value = AreDigits (digit ∷ digits) × (number_after 0 (digit ∷ digits) ≡ value)
 
+-- the character round a string
+abbrev pub quote : ℕ
+quote = 34
+
+-- the character that takes the next one with it
+abbrev pub backslash : ℕ
+backslash = 92
+
+-- the character that ends a line
+abbrev pub line_feed : ℕ
+line_feed = 10
+
 -- What may stand in a string up to and with the quote that closes it: a backslash takes the next
 -- character with it, and no line feed stands there.
 abbrev pub IsStringRest : List ℕ → Type 0
 IsStringRest [] = ⊥
-IsStringRest (c ∷ []) = c ≡ 34
+IsStringRest (c ∷ []) = c ≡ quote
 IsStringRest (c ∷ d ∷ cs) =
-    ((c ≡ 92) × (d ≢ 10) × IsStringRest cs) ⊎ ((c ≢ 92) × (c ≢ 34) × (c ≢ 10) × IsStringRest (d ∷ cs))
+    ((c ≡ backslash) × (d ≢ line_feed) × IsStringRest cs) ⊎ ((c ≢ backslash) × (c ≢ quote) × (c ≢ line_feed) × IsStringRest (d ∷ cs))
 
 -- a string with both its quotes
 abbrev pub IsString : List ℕ → Type 0
 IsString [] = ⊥
-IsString (c ∷ cs) = (c ≡ 34) × IsStringRest cs
+IsString (c ∷ cs) = (c ≡ quote) × IsStringRest cs
 
 -- a character that may begin a name
 abbrev pub IsNameStart : ℕ → Type 0

@@ -19,7 +19,7 @@ pub(crate) fn across(from: Span, to: Span) -> Span
 }
 
 /// The depth of a form whose deepest part has this depth.
-pub(crate) fn above(deepest: usize) -> usize
+pub(crate) fn one_deeper(deepest: usize) -> usize
     requires { suc deepest < 2 ^ 64 }
     ensures { result ≡ suc deepest }
 {
@@ -38,7 +38,7 @@ pub(crate) fn both(
     ensures { IfOk result (λ operand. operand ≡ both op at left right) }
 {
     let span = across(left.span, right.span);
-    let depth = above(left.depth.max(right.depth));
+    let depth = one_deeper(left.depth.max(right.depth));
     let expr = match op {
         Some(op) => Expr::operation(alloc, span, op, at, left.expr, right.expr)?,
         None => Expr::apply(alloc, span, left.expr, right.expr)?,
@@ -54,7 +54,7 @@ pub(crate) fn closed(alloc: Global, tail: Tail, last: Operand) -> Result<Operand
     match tail {
         Tail::FunBody { from, name } => {
             let span = across(from, last.span);
-            let depth = above(last.depth);
+            let depth = one_deeper(last.depth);
             let expr = Expr::fun(alloc, span, name.name, name.span, last.expr)?;
             Ok(Operand { expr, span, depth })
         }
@@ -65,7 +65,7 @@ pub(crate) fn closed(alloc: Global, tail: Tail, last: Operand) -> Result<Operand
             bound,
         } => {
             let span = across(from, last.span);
-            let depth = above(bound.depth.max(last.depth));
+            let depth = one_deeper(bound.depth.max(last.depth));
             let expr = Expr::let_in(
                 alloc, span, recursive, name.name, name.span, bound.expr, last.expr,
             )?;
@@ -77,7 +77,7 @@ pub(crate) fn closed(alloc: Global, tail: Tail, last: Operand) -> Result<Operand
             then,
         } => {
             let span = across(from, last.span);
-            let depth = above(condition.depth.max(then.depth.max(last.depth)));
+            let depth = one_deeper(condition.depth.max(then.depth.max(last.depth)));
             let expr = Expr::if_else(alloc, span, condition.expr, then.expr, last.expr)?;
             Ok(Operand { expr, span, depth })
         }
@@ -105,7 +105,7 @@ fn closed_match(
     ensures { IfOk result (λ operand. operand ≡ closed (Tail.CellArm from list empty first rest) last) }
 {
     let span = across(from, last.span);
-    let depth = above(list.depth.max(empty.depth.max(last.depth)));
+    let depth = one_deeper(list.depth.max(empty.depth.max(last.depth)));
     let expr = Expr::match_list(
         alloc, span, list.expr, empty.expr, first.name, first.span, rest.name, rest.span, last.expr,
     )?;
@@ -125,13 +125,13 @@ pub(crate) fn enclosed(
     match right {
         Right::Pair { from, left } => {
             let span = across(from, at);
-            let depth = above(left.depth.max(last.depth));
+            let depth = one_deeper(left.depth.max(last.depth));
             let expr = Expr::pair(alloc, span, left.expr, last.expr)?;
             Ok(Operand { expr, span, depth })
         }
         Right::Choice { dim, left } => {
             let span = across(dim.span, at);
-            let depth = above(left.depth.max(last.depth));
+            let depth = one_deeper(left.depth.max(last.depth));
             let expr = Expr::choice(alloc, span, dim.name, dim.span, left.expr, last.expr)?;
             Ok(Operand { expr, span, depth })
         }
@@ -146,6 +146,6 @@ pub(crate) fn wrapped(from: Span, to: Span, inner: Operand) -> Operand
     Operand {
         expr: inner.expr,
         span: across(from, to),
-        depth: above(inner.depth),
+        depth: one_deeper(inner.depth),
     }
 }

@@ -130,8 +130,13 @@ fn enclose(
     ensures { IfOk result (λ next. next ≡ end_part mark at reader (Frame.Right right ∷ reader.stack) operand) }
 {
     if mark.is_same(bracket(&right)) {
-        let whole = enclosed(alloc, right, operand, at)?;
-        Ok(Some(reader.placed(Next::Read(whole))))
+        match enclosed(alloc, right, operand, at) {
+            Ok(whole) => Ok(Some(reader.placed(Next::Read(whole)))),
+            Err(error) => {
+                drop(reader);
+                Err(error)
+            }
+        }
     } else {
         drop(right);
         drop(reader);

@@ -1,7 +1,7 @@
 use std::alloc::AllocError;
 use thiserror::Error;
 
-/// Why tokens spell no program that is admitted. A token is given by its place in the list; the length
+/// Why tokens spell no program that is admitted. A token is given by its index in the list; the length
 /// of the list stands for the end of the text.
 #[derive(Debug, Drop, Error)]
 pub enum ParseFault {

@@ -1,7 +1,7 @@
 use Rattle.std.specs.Prelude.{ℕ, List, [], ◌∷◌, ◌++◌, codes, decimal}
 use Rattle.vt_lex.specs.declared.place.LineCol.{LineCol}
 use Rattle.vt_report.specs.declared.refusal.Refusal.{Refusal}
-use Rattle.vt_report.specs.declared.refusal.Refusal.TheVariants.{TooLong, NotText, BadCharacter, OpenString, BigNumber, Unexpected, TooDeep, Unbound, TooManyDimensions, TooBigPart}
+use Rattle.vt_report.specs.declared.refusal.Refusal.TheVariants.{TooLong, NotText, BadCharacter, OpenString, BigNumber, Unexpected, TooDeep, Unbound, TooManyDimensions, BadDecision, UnknownDimension, NotPlain, TooManyLeaves, TooBigPart, TooBigChange}
 
 -- a text, and the end of its line
 abbrev pub line : List ℕ → List ℕ
@@ -22,4 +22,9 @@ refusal_line (Unexpected at token) = placed at (codes "unexpected " ++ token)
 refusal_line (TooDeep at) = placed at (codes "nested too deep")
 refusal_line (Unbound at name) = placed at (codes "unbound name " ++ name)
 refusal_line (TooManyDimensions at) = placed at (codes "more than 64 dimensions")
+refusal_line BadDecision = line (codes "bad decision")
+refusal_line (UnknownDimension name) = line (codes "unknown dimension " ++ name)
+refusal_line (NotPlain name) = line (codes "dimension " ++ name ++ codes " is undecided")
+refusal_line TooManyLeaves = line (codes "more than 2048 leaves")
 refusal_line (TooBigPart name) = line (codes "type of " ++ name ++ codes " has more than 4096 nodes")
+refusal_line (TooBigChange at) = line (codes "type of the change at " ++ decimal at.line ++ codes ":" ++ decimal at.column ++ codes " has more than 4096 nodes")

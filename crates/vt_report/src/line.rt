@@ -19,7 +19,16 @@ pub fn refusal_line(alloc: Global, refusal: &Refusal) -> Result<String, AllocErr
         Refusal::TooDeep { at } => at_place(alloc, *at, "nested too deep", ""),
         Refusal::Unbound { at, name } => at_place(alloc, *at, "unbound name ", name.as_str()),
         Refusal::TooManyDimensions { at } => at_place(alloc, *at, "more than 64 dimensions", ""),
-        Refusal::TooBigPart { name } => too_big(alloc, name.as_str()),
+        Refusal::BadDecision => fixed(alloc, "bad decision"),
+        Refusal::UnknownDimension { name } => {
+            around(alloc, "unknown dimension ", name.as_str(), "\n")
+        }
+        Refusal::NotPlain { name } => around(alloc, "dimension ", name.as_str(), " is undecided\n"),
+        Refusal::TooManyLeaves => fixed(alloc, "more than 2048 leaves"),
+        Refusal::TooBigPart { name } => {
+            around(alloc, "type of ", name.as_str(), " has more than 4096 nodes\n")
+        }
+        Refusal::TooBigChange { at } => too_big_change(alloc, *at),
     }
 }
 
@@ -45,9 +54,7 @@ fn at_place(alloc: Global, at: LineCol, text: &str, name: &str) -> Result<String
     ensures { IfOk result (λ out. string_bytes out ≡ placed at (text.now ++ name.now)) }
 {
     let mut out = String::new(alloc);
-    push_number(&mut out, at.line)?;
-    push(&mut out, ":")?;
-    push_number(&mut out, at.column)?;
+    push_place(&mut out, at)?;
     push(&mut out, " ")?;
     push(&mut out, text)?;
     push(&mut out, name)?;
@@ -55,13 +62,32 @@ fn at_place(alloc: Global, at: LineCol, text: &str, name: &str) -> Result<String
     Ok(out)
 }
 
-fn too_big(alloc: Global, name: &str) -> Result<String, AllocError>
-    ensures { IfOk result (λ out. string_bytes out ≡ line (codes "type of " ++ name.now ++ codes " has more than 4096 nodes")) }
+// A name between two texts.
+fn around(alloc: Global, before: &str, name: &str, after: &str) -> Result<String, AllocError>
+    ensures { IfOk result (λ out. string_bytes out ≡ before.now ++ name.now ++ after.now) }
 {
-    let mut out = String::from_str(alloc, "type of ")?;
+    let mut out = String::from_str(alloc, before)?;
     push(&mut out, name)?;
+    push(&mut out, after)?;
+    Ok(out)
+}
+
+fn too_big_change(alloc: Global, at: LineCol) -> Result<String, AllocError>
+    ensures { IfOk result (λ out. string_bytes out ≡ line (codes "type of the change at " ++ decimal at.line ++ codes ":" ++ decimal at.column ++ codes " has more than 4096 nodes")) }
+{
+    let mut out = String::from_str(alloc, "type of the change at ")?;
+    push_place(&mut out, at)?;
     push(&mut out, " has more than 4096 nodes\n")?;
     Ok(out)
+}
+
+// The line and the column of a place.
+fn push_place(out: &mut String, at: LineCol) -> Result<(), AllocError>
+    ensures { OnOk result (string_bytes out.new ≡ string_bytes out.old ++ decimal at.line ++ codes ":" ++ decimal at.column) }
+{
+    push_number(out, at.line)?;
+    push(out, ":")?;
+    push_number(out, at.column)
 }
 
 fn push(out: &mut String, text: &str) -> Result<(), AllocError>

@@ -21,6 +21,16 @@ pub enum Refusal {
     Unbound { at: LineCol, name: Word },
     /// The first occurrence of one dimension more than a file may have.
     TooManyDimensions { at: LineCol },
+    /// The text of a decision is none, or names a dimension twice.
+    BadDecision,
+    /// The first name of a decision that is no dimension of the file.
+    UnknownDimension { name: Word },
+    /// The first dimension of the file that is not decided, where a program without choices is asked for.
+    NotPlain { name: Word },
+    /// The program has more leaves than are changed.
+    TooManyLeaves,
     /// The type of a part has more nodes than are printed. The main expression is named `-`.
     TooBigPart { name: Word },
+    /// A type of the change at this place has more nodes than are printed.
+    TooBigChange { at: LineCol },
 }

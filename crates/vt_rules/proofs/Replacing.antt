@@ -9,7 +9,8 @@ use Rattle.vt_type.specs.Constants.{Constant}
 use Rattle.vt_rules.specs.Env.{Empty}
 use Rattle.vt_rules.specs.TypingAt.{TyAt, HoldsHole}
 use Rattle.vt_syntax.specs.Holes.{where_same, with_hole}
-use Rattle.vt_rules.specs.Changes.{without, HasLeaf, Cures}
+use Rattle.vt_syntax.specs.Leaves.{HasLeaf}
+use Rattle.vt_rules.specs.Changes.{without, Cures}
 use Rattle.vt_rules.proofs.Marking.{marked}
 
 -- A leaf that is replaced by a hole is a hole.
@@ -23,7 +24,7 @@ here leaf node at form e = by (nat_eq node leaf) (eq-eqb node leaf e)
     by true h = e
     by false h = absurd (true≢false (sym h))
 
-replaced : (leaf node : ℕ) (at : Span) (form : Form) → HasLeaf leaf node form → HoldsHole leaf (with_hole leaf node at form).node (with_hole leaf node at form).form
+pub replaced : (leaf node : ℕ) (at : Span) (form : Form) → HasLeaf leaf node form → HoldsHole leaf (with_hole leaf node at form).node (with_hole leaf node at form).form
 replaced leaf node at (Literal literal) h = here leaf node at (Literal literal) h
 replaced leaf node at (Name distance) h = here leaf node at (Name distance) h
 replaced leaf node at (Const id) h = here leaf node at (Const id) h

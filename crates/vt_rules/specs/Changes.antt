@@ -1,27 +1,13 @@
 use Rattle.std.specs.Prelude.{◌≡◌, ◌⊎◌, ℕ, ◌<◌, List, Contains, AllPairs, slice_get, Some, map}
 use Rattle.std.specs.List.{All}
 use Rattle.vt_syntax.specs.declared.core_expr.Core.{Core}
-use Rattle.vt_syntax.specs.declared.core_expr.Form.{Form, Literal, Name, Const, Hole}
 use Rattle.vt_syntax.specs.declared.leaf.Leaf.{Leaf}
 use Rattle.vt_syntax.specs.Holes.{core_with_hole}
-use Rattle.vt_syntax.specs.CoreTrees.{fun_of, app_of, let_of, let_rec_of, choice_of}
 use Rattle.vt_type.specs.declared.change.ChangeLine.{ChangeLine}
 use Rattle.vt_type.specs.Plain.{plain_nodes}
 use Rattle.vt_type.specs.Canonical.{IsCanonical}
 use Rattle.vt_type.specs.Constants.{Constant, pair}
 use Rattle.vt_rules.specs.Principal.{IsTyped, PrincipalAt}
-
--- a literal, a name or a constant of a form, whose own number is `node`, has the number of the leaf
-abbrev pub HasLeaf : ℕ → ℕ → Form → Type 0
-HasLeaf leaf node (Literal literal) = node ≡ leaf
-HasLeaf leaf node (Name distance) = node ≡ leaf
-HasLeaf leaf node (Const id) = node ≡ leaf
-HasLeaf leaf node Hole = ⊥
-HasLeaf leaf node (fun_of n at body) = HasLeaf leaf n body
-HasLeaf leaf node (app_of n at function m by argument) = HasLeaf leaf n function ⊎ HasLeaf leaf m argument
-HasLeaf leaf node (let_of n at bound m by body) = HasLeaf leaf n bound ⊎ HasLeaf leaf m body
-HasLeaf leaf node (let_rec_of name name_at n at bound m by body) = HasLeaf leaf n bound ⊎ HasLeaf leaf m body
-HasLeaf leaf node (choice_of dim n at left m by right) = HasLeaf leaf n left ⊎ HasLeaf leaf m right
 
 -- a program with a leaf replaced by a hole
 abbrev pub without : Leaf → Core → Core

@@ -18,7 +18,8 @@ use Rattle.vt_rules.specs.TypingAt.{TyAt, HoldsHole}
 use Rattle.vt_rules.specs.TypingUpTo.{TyUpTo}
 use Rattle.vt_rules.specs.Principal.{IsTyped, Principal, PrincipalAt}
 use Rattle.vt_rules.specs.Meaning.{Means, prefix}
-use Rattle.vt_rules.specs.Changes.{IsChanges, HasLeaf, Cures, without}
+use Rattle.vt_syntax.specs.Leaves.{HasLeaf}
+use Rattle.vt_rules.specs.Changes.{IsChanges, Cures, without}
 use Rattle.vt_rules.specs.Failing.{IsTypedUpTo, FirstFailing, HasJoin}
 use Rattle.vt_rules.specs.Generalising.{Gen, Start, Most}
 

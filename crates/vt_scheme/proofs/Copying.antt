@@ -14,7 +14,7 @@ use Rattle.vt_store.specs.Writes.{IsOf}
 use Rattle.vt_store.proofs.Cells.{EndsWithin-named}
 use Rattle.vt_scheme.specs.declared.scheme.Scheme.{Scheme}
 use Rattle.vt_scheme.specs.declared.scheme.Copied.{Copied}
-use Rattle.vt_scheme.specs.Schemes.{HasTypes, AreCells, Extends, IsInstanceOf}
+use Rattle.vt_scheme.specs.Schemes.{HasTypes, AreCells, ExtendsSolution, IsInstanceOf}
 use Rattle.vt_scheme.proofs.Freezing.{map_moved}
 
 -- Cells that come after others: solutions of both are one solution.
@@ -125,7 +125,7 @@ module _ {N : ℕ} (scheme : Scheme N) (old new : Cells) (is : IsAppended old sc
     }
 
     gives : (decision : List Side) → IsOf N old.space decision → (s : ℕ → Plain) → Solves by (ends_at old decision) s → (types : List Plain) (type : Plain)
-        → HasTypes scheme.cells scheme.monos scheme.root decision types type → Extends copied old new decision s types type
+        → HasTypes scheme.cells scheme.monos scheme.root decision types type → ExtendsSolution copied old new decision s types type
     gives decision of s solves types type allowed = record {
       other = joined by s allowed.s;
       solves = Solves-joined decision of s allowed.s solves allowed.solves;

@@ -31,7 +31,7 @@ abbrev pub AgreeBelow : ℕ → (ℕ → Plain) → (ℕ → Plain) → Type 0
 AgreeBelow count s other = (cell : ℕ) → cell < count → other cell ≡ s cell
 
 -- a solution of the new store that agrees with one of the old store on the old cells, and gives the copies these types
-pub record Extends (copied : Copied) (old new : Cells) (decision : List Side) (s : ℕ → Plain) (types : List Plain) (type : Plain) : Type 0 where
+pub record ExtendsSolution (copied : Copied) (old new : Cells) (decision : List Side) (s : ℕ → Plain) (types : List Plain) (type : Plain) : Type 0 where
   pub other : ℕ → Plain
   pub solves : Solves (cell_count new) (ends_at new decision) other
   pub agrees : AgreeBelow (cell_count old) s other
@@ -52,4 +52,4 @@ pub record IsInstanceOf {N : ℕ} (scheme : Scheme N) (copied : Copied) (old new
       → Solves (cell_count new) (ends_at new decision) s → Allows scheme decision (map s copied.monos) (s copied.root)
   pub gives : (decision : List Side) → IsOf N old.space decision → (s : ℕ → Plain)
       → Solves (cell_count old) (ends_at old decision) s → (types : List Plain) (type : Plain) → Allows scheme decision types type
-      → Extends copied old new decision s types type
+      → ExtendsSolution copied old new decision s types type

@@ -1,4 +1,4 @@
-ghost use Rattle.std.specs.Prelude.{◌≡◌, ◌<◌, IfOk, OnErr};
+ghost use Rattle.std.specs.Prelude.{◌≡◌, ◌*◌, ◌^◌, ◌<◌, IfOk, OnErr};
 ghost use Rattle.std.specs.List.{All};
 ghost use Rattle.vt_store.specs.Stores.{cell_count, IsUnchanged};
 ghost use Rattle.vt_store.specs.Sharing.{IsShared};
@@ -120,6 +120,13 @@ fn represented<const N: usize>(
     })
 }
 
+// Does nothing. A proof calls it that rests on the number of cells of two stores being a number of 64 bits.
+fn few_cells<const N: usize>(store: &Store<N>)
+    ensures { 2 * cell_count store.now < 2 ^ 64 }
+{
+    let _ = store.count();
+}
+
 /// Copies a scheme's cells after those of a store. On an error the store's cells are as before.
 pub fn instance<const N: usize>(
     store: &mut Store<N>,
@@ -133,7 +140,7 @@ pub fn instance<const N: usize>(
     // In both stores ends name cells of the same store, and the sum of their cells fits.
     store.acyclic();
     scheme.cells.acyclic();
-    let _count = scheme.cells.count();
+    few_cells(&scheme.cells);
     let by = store.count();
     let monos = scheme.monos.raised(store.allocator(), by)?;
     let root = CellId(scheme.root.0 + by);

@@ -132,7 +132,7 @@ module _ (constants : List Constant) (dims : List (List ℕ)) where
       record { names = (one.names, two.names); table = λ h. (one.table h, two.table h); dims_are = (one.dims_are, two.dims_are) }
 
   -- the form that binds a definition
-  binding-is : (def : CoreDef) (recursive : Bool) (rest : Core) → binding def recursive rest ≡ cores.bound_form recursive def.name def.name_span def.body rest
+  pub binding-is : (def : CoreDef) (recursive : Bool) (rest : Core) → binding def recursive rest ≡ cores.bound_form recursive def.name def.name_span def.body rest
   binding-is def true rest = refl
   binding-is def false rest = refl
 

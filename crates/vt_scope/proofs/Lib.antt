@@ -9,3 +9,5 @@ mod Selecting
 pub mod Closing
 pub mod Numbering
 pub mod OneCore
+pub mod LeafLists
+pub mod Leaves

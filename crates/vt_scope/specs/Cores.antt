@@ -15,7 +15,7 @@ use Rattle.vt_syntax.specs.declared.core_program.CoreDef.{CoreDef}
 use Rattle.vt_syntax.specs.declared.core_program.CoreProgram.{CoreProgram}
 use Rattle.vt_syntax.specs.declared.leaf.Leaf.{Leaf}
 use Rattle.vt_syntax.specs.declared.leaf.Class.TheVariants as class
-use Rattle.vt_syntax.specs.Leaves.{leaf}
+use Rattle.vt_syntax.specs.Leaves.{leaf, IsImplied}
 use Rattle.vt_syntax.specs.SurfaceTrees as surface
 use Rattle.vt_syntax.specs.SurfaceTrees.{expr, exprs, exprs_of}
 use Rattle.vt_syntax.specs.CoreTrees.{core, fun_form, app_form, let_form, let_rec_form, choice_form}
@@ -57,6 +57,10 @@ split_id = 17
 -- a table that has all of these
 abbrev pub HasImplied : List Constant → Type 0
 HasImplied constants = 18 ≤ length constants
+
+-- a table that names none of them
+abbrev pub NamesNoImplied : List Constant → Type 0
+NamesNoImplied constants = (id : ℕ) (name : List ℕ) → IsImplied id → HasName constants id name → ⊥
 
 -- one expression applied to another, and a function, under a number and a span
 abbrev pub applied : ℕ → Span → Core → Core → Core

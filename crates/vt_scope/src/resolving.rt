@@ -2,8 +2,9 @@
 ghost use Rattle.std.specs.Prelude.{◌≡◌, ℕ, ◌≤◌, [], None, length, IfOk, MatchResult};
 ghost use Rattle.vt_syntax.specs.Scoping.{IsClosed};
 ghost use Rattle.vt_syntax.specs.Checking.{IsInCheckingOrder, HasDistinctNumbers};
+ghost use Rattle.vt_syntax.specs.Leaves.{AreLeaves};
 ghost use Rattle.vt_scope.specs.Faults.{program_events, dims_of, first_fault, IsFault};
-ghost use Rattle.vt_scope.specs.Cores.{HasImplied, IsCoreProgram};
+ghost use Rattle.vt_scope.specs.Cores.{HasImplied, NamesNoImplied, IsCoreProgram};
 ghost use Rattle.vt_scope.specs.Definitions.{AnswersDef, AnswersDefs};
 
 use crate::ScopeFault;
@@ -41,6 +42,9 @@ pub fn resolve(
 
     // A table that has the constants that no text writes, as that of the language does.
     ensures closed { IfOk result (λ r. HasImplied constants.now → IsClosed (length constants.now) (length r.tables.dims) r.core) }
+
+    // The leaves are those of the core, where no name is that of a constant that no text writes.
+    ensures leaves { IfOk result (λ r. NamesNoImplied constants.now → AreLeaves r.core r.leaves) }
     ensures numbered { IfOk result (λ r. IsInCheckingOrder r.core) }
     ensures distinct { IfOk result (λ r. HasDistinctNumbers r.core) }
 {

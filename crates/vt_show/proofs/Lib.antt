@@ -6,9 +6,9 @@ pub mod ReadIsSpelled
 pub mod Readings
 pub mod Writing
 pub mod Distincts
-pub mod FirstPlaces
+pub mod FirstPaths
 pub mod StepByStep
-pub mod NormalPlaces
+pub mod NormalPaths
 pub mod Numbered
 pub mod ReadBack
 pub mod PlainTexts

@@ -12,9 +12,9 @@ use Rattle.vt_type.specs.declared.vtype.VKids.{VKids, Nil}
 use Rattle.vt_type.specs.Variational.{vkids_of, choice, IsWellFormedV}
 use Rattle.vt_type.specs.Text.{variables, kids_variables, distinct, letter, wrapped, shown}
 use Rattle.vt_show.specs.Conditions.{DimsBelow, HasNoData}
-use Rattle.vt_show.specs.Reading.{Spells, int, bool, string, error, variable, list, parentheses, either, pair, one_atom, arrow, no_arrow, renamed, by_first_place}
+use Rattle.vt_show.specs.Reading.{Spells, int, bool, string, error, variable, list, parentheses, either, pair, one_atom, arrow, no_arrow, renamed, by_first_path}
 use Rattle.vt_show.proofs.Signs.{position-some}
-use Rattle.vt_show.proofs.Renamings.{EachName, EachKidName, by_first_place-renamed}
+use Rattle.vt_show.proofs.Renamings.{EachName, EachKidName, by_first_path-renamed}
 
 -- A text of a type spells it with its variables numbered in the order in which they appear.
 
@@ -145,12 +145,12 @@ among_distinct (own ∷ names) name h = elim (cases_Bool (bytes_eq name own)) [
       | inr e ↦ rw e refl
     ]
 
--- the place of some element that passes
-passing_place : (p : List ℕ → Bool) (names : List (List ℕ)) → list_any p names ≡ true → (k : ℕ) × (k < length names) × (p (get_or names k []) ≡ true)
-passing_place p [] h = absurd (false≢true h)
-passing_place p (name ∷ names) h = elim (cases_Bool (p name)) [
+-- the appearance of some element that passes
+passing_appearance : (p : List ℕ → Bool) (names : List (List ℕ)) → list_any p names ≡ true → (k : ℕ) × (k < length names) × (p (get_or names k []) ≡ true)
+passing_appearance p [] h = absurd (false≢true h)
+passing_appearance p (name ∷ names) h = elim (cases_Bool (p name)) [
   | inl e ↦ (0, omega arith, e)
-  | inr e ↦ (let more = passing_place p names (rw e at h) in (suc more.0, omega arith, more.2))
+  | inr e ↦ (let more = passing_appearance p names (rw e at h) in (suc more.0, omega arith, more.2))
 ]
 
 -- the name of a number
@@ -160,14 +160,14 @@ name_of names (number ∷ more) = get_or names number []
 
 name_of-numbered : (names : List (List ℕ)) (name : List ℕ) → IsAmong names name → name_of names (numbered names name) ≡ name
 name_of-numbered names name h =
-    let place = passing_place (bytes_eq name) names h in
-    let found = position-some (bytes_eq name) names place.0 [] place.1 place.2 in
+    let appearance = passing_appearance (bytes_eq name) names h in
+    let found = position-some (bytes_eq name) names appearance.0 [] appearance.1 appearance.2 in
     let passes = position-Some (bytes_eq name) names _ [] found in
     rw found (sym ((bytes_eq-Decides name _).0 passes.1))
 
--- the first places stay where variables are numbered
-pub by_first_place-numbered : (type : VType) → by_first_place (renamed (numbered (distinct (variables type))) type) ≡ by_first_place type
-by_first_place-numbered type =
+-- the first paths stay where variables are numbered
+pub by_first_path-numbered : (type : VType) → by_first_path (renamed (numbered (distinct (variables type))) type) ≡ by_first_path type
+by_first_path-numbered type =
     let names = distinct (variables type) in
     let undone = each_weaker (IsAmong (variables type)) (λ name. name_of names (numbered names name) ≡ name) (variables type) (λ name h. name_of-numbered names name (among_distinct (variables type) name h)) (each_among (variables type)) in
-    by_first_place-renamed (numbered names) (name_of names) type (names_of_variables (λ name. name_of names (numbered names name) ≡ name) type undone)
+    by_first_path-renamed (numbered names) (name_of names) type (names_of_variables (λ name. name_of names (numbered names name) ≡ name) type undone)

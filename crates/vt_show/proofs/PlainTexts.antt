@@ -1,4 +1,5 @@
 use Rattle.std.proofs.Common.{◌≡◌, ℕ, ◌+◌, List, [], ◌++◌, nat_lt, codes, refl, ap, ◌∙◌}
+use Rattle.std.proofs.lemmas.List.{append_assoc}
 use Rattle.vt_type.specs.declared.head.Head.TheVariants.{Int, Bool as Truth, Text, List as ListOf, Pair, Fun, Data}
 use Rattle.vt_type.specs.declared.plain.Plain.{Plain}
 use Rattle.vt_type.specs.declared.plain.Plain as plain
@@ -9,7 +10,7 @@ use Rattle.vt_type.specs.declared.vtype.VType.{VType}
 use Rattle.vt_type.specs.Variational.{vkid_count, IsWellFormedV, AreWellFormedV}
 use Rattle.vt_type.specs.Text.{variables, distinct, wrapped, shown}
 use Rattle.vt_show.specs.Conditions.{DimsBelow, KidsDimsBelow}
-use Rattle.vt_show.specs.Pairs.{of_plain, of_plain_kids, both_text, pair_text}
+use Rattle.vt_show.specs.Pairs.{of_plain, of_plain_kids, both_shown, both_text, pair_text}
 
 -- Plain types, seen as variational ones.
 
@@ -60,17 +61,15 @@ shown-plain dims names level (plain.Con Fun (kids_of kid plain_kids.Nil)) = refl
 shown-plain dims names level (plain.Con Fun (kids_of kid (kids_of other (kids_of more kids)))) = refl
 shown-plain dims names level (plain.Con (Data number parameters) kids) = refl
 
-four_parts : (start s1 s2 s3 end a b c d : List ℕ) → start ≡ [] → s1 ≡ start ++ a → s2 ≡ s1 ++ b → s3 ≡ s2 ++ c → end ≡ s3 ++ d → end ≡ a ++ b ++ c ++ d
-four_parts start s1 s2 s3 end a b c d e0 e1 e2 e3 e4 = rw (e4, e3, e2, e1, e0) refl
+after : (s a b c d : List ℕ) → s ++ a ++ b ++ c ++ d ≡ s ++ (a ++ b ++ c ++ d)
+after s a b c d = ap (λ t. t ++ c ++ d) (append_assoc s a b) ∙ ap (λ t. t ++ d) (append_assoc s (a ++ b) c) ∙ append_assoc s (a ++ b ++ c) d
 
--- the parts of the text of two types, one after the other
+-- two types are written one after the other
 pub both_written : (dims names : List (List ℕ)) (one other : VType) (start s1 s2 s3 end : List ℕ)
-    → names ≡ distinct (variables one ++ variables other) → start ≡ []
     → s1 ≡ start ++ codes "wants " → s2 ≡ s1 ++ shown dims names 0 one → s3 ≡ s2 ++ codes ", result " → end ≡ s3 ++ shown dims names 0 other
-    → end ≡ both_text dims one other
-both_written dims names one other start s1 s2 s3 end letters e0 e1 e2 e3 e4 =
-    four_parts start s1 s2 s3 end (codes "wants ") _ (codes ", result ") _ e0 e1 e2 e3 e4
-    ∙ (λ j. codes "wants " ++ shown dims (letters j) 0 one ++ codes ", result " ++ shown dims (letters j) 0 other)
+    → end ≡ start ++ both_shown dims names one other
+both_written dims names one other start s1 s2 s3 end e1 e2 e3 e4 =
+    rw (e4, e3, e2, e1) (after start (codes "wants ") (shown dims names 0 one) (codes ", result ") (shown dims names 0 other))
 
 -- plain types have the same text over all names of dimensions
 pub both_text-plain : (dims : List (List ℕ)) (wanted outcome : Plain) (one other : VType) → one ≡ of_plain wanted → other ≡ of_plain outcome

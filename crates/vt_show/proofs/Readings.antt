@@ -4,30 +4,30 @@ use Rattle.vt_type.specs.declared.vtype.VType.{VType}
 use Rattle.vt_type.specs.Variational.{IsWellFormedV, most_dimensions}
 use Rattle.vt_type.specs.Names.{AreDistinct}
 use Rattle.vt_show.specs.Conditions.{DimsBelow}
-use Rattle.vt_show.specs.Reading.{Spells, int, bool, string, error, variable, list, parentheses, either, pair, one_atom, arrow, no_arrow, by_first_place, IsReading, LackBraces}
+use Rattle.vt_show.specs.Reading.{Spells, int, bool, string, error, variable, list, parentheses, either, pair, one_atom, arrow, no_arrow, by_first_path, IsReadingOf, LackBraces}
 use Rattle.vt_show.specs.Steps.{type_of}
 use Rattle.vt_show.proofs.Renamings.{renamed-well_formed, renamed-dims}
-use Rattle.vt_show.proofs.SpelledIsRead.{letter_name, lettered, type_of-spelled, by_first_place-lettered, one_type}
+use Rattle.vt_show.proofs.SpelledIsRead.{letter_name, lettered, type_of-spelled, by_first_path-lettered, one_type}
 use Rattle.vt_show.proofs.ReadIsSpelled.{type_of-read}
 
 -- What the reader answers is the reading of the text.
 
 module _ (dims : List (List ℕ)) (distinct : AreDistinct dims) (lack : LackBraces dims) (text : List ℕ) where
-  pub reading_of-some : (found : VType) → type_of dims text ≡ Some found → IsReading dims text (Some (by_first_place found))
+  pub reading_of-some : (found : VType) → type_of dims text ≡ Some found → IsReadingOf dims text (Some (by_first_path found))
   reading_of-some found h =
       let read = type_of-read dims text found h in
-      (read.0, read.1, ap by_first_place read.2 ∙ by_first_place-lettered dims text read.0 read.1)
+      (read.0, read.1, ap by_first_path read.2 ∙ by_first_path-lettered dims text read.0 read.1)
 
-  pub reading_of-none : type_of dims text ≡ None → IsReading dims text None
+  pub reading_of-none : type_of dims text ≡ None → IsReadingOf dims text None
   reading_of-none h spelled k = none-some (lettered spelled) (sym h ∙ type_of-spelled dims distinct lack text spelled k)
 
   -- a text has one reading
-  pub one_reading : (one other : Option VType) → IsReading dims text one → IsReading dims text other → one ≡ other
+  pub one_reading : (one other : Option VType) → IsReadingOf dims text one → IsReadingOf dims text other → one ≡ other
   one_reading None None h k = refl
   one_reading None (Some other) h k = absurd (h k.0 k.1)
   one_reading (Some one) None h k = absurd (k h.0 h.1)
   one_reading (Some one) (Some other) h k =
-      ap Some (h.2 ∙ ap by_first_place (one_type dims distinct lack text h.0 k.0 h.1 k.1) ∙ sym k.2)
+      ap Some (h.2 ∙ ap by_first_path (one_type dims distinct lack text h.0 k.0 h.1 k.1) ∙ sym k.2)
 
 -- what is spelled is well formed
 module _ (dims : List (List ℕ)) (few : length dims ≤ most_dimensions) where

@@ -9,11 +9,11 @@ use Rattle.vt_type.specs.declared.vtype.VType.{VType, Var, Con, Err}
 use Rattle.vt_type.specs.declared.vtype.VKids.{VKids, Nil}
 use Rattle.vt_type.specs.Variational.{vkids_of, choice, vkid_count, IsWellFormedV, AreWellFormedV}
 use Rattle.vt_show.specs.Conditions.{DimsBelow, KidsDimsBelow}
-use Rattle.vt_show.specs.Reading.{places, kids_places, renamed, kids_renamed, by_first_place}
+use Rattle.vt_show.specs.Reading.{appearances, kids_appearances, renamed, kids_renamed, by_first_path}
 
 -- Types under other names.
 
--- a fact of each name of a type, and of each in a list of places
+-- a fact of each name of a type, and of each in a list of appearances
 abbrev mutual
   pub EachName : (List ℕ → Type 0) → VType → Type 0
   EachName P (Var name) = P name
@@ -25,66 +25,66 @@ abbrev mutual
   EachKidName P Nil = Unit {0}
   EachKidName P (vkids_of kid kids) = EachName P kid × EachKidName P kids
 
-abbrev pub EachPlace : (List ℕ → Type 0) → List (List ℕ × List ℕ) → Type 0
-EachPlace P [] = Unit {0}
-EachPlace P (place ∷ more) = P place.0 × EachPlace P more
+abbrev pub EachAppearance : (List ℕ → Type 0) → List (List ℕ × List ℕ) → Type 0
+EachAppearance P [] = Unit {0}
+EachAppearance P (appearance ∷ more) = P appearance.0 × EachAppearance P more
 
 module _ (P : List ℕ → Type 0) where
-  each_append : (some more : List (List ℕ × List ℕ)) → EachPlace P some → EachPlace P more → EachPlace P (some ++ more)
+  each_append : (some more : List (List ℕ × List ℕ)) → EachAppearance P some → EachAppearance P more → EachAppearance P (some ++ more)
   each_append [] more h k = k
-  each_append (place ∷ some) more h k = (h.0, each_append some more h.1 k)
+  each_append (appearance ∷ some) more h k = (h.0, each_append some more h.1 k)
 
-  each_of_append : (some more : List (List ℕ × List ℕ)) → EachPlace P (some ++ more) → EachPlace P some × EachPlace P more
+  each_of_append : (some more : List (List ℕ × List ℕ)) → EachAppearance P (some ++ more) → EachAppearance P some × EachAppearance P more
   each_of_append [] more h = (tt, h)
-  each_of_append (place ∷ some) more h = let parts = each_of_append some more h.1 in ((h.0, parts.0), parts.1)
+  each_of_append (appearance ∷ some) more h = let parts = each_of_append some more h.1 in ((h.0, parts.0), parts.1)
 
-  -- what holds of the names holds of the places, and the other way round
+  -- what holds of the names holds of the appearances, and the other way round
   mutual
-    pub places_of_names : (at : List ℕ) (type : VType) → EachName P type → EachPlace P (places at type)
-    places_of_names at (Var name) h = (h, tt)
-    places_of_names at (Con top kids) h = places_of_kid_names at 0 kids h
-    places_of_names at (choice dim left right) h =
-        each_append (places at left) (places at right) (places_of_names at left h.0) (places_of_names at right h.1)
-    places_of_names at Err h = tt
+    pub appearances_of_names : (at : List ℕ) (type : VType) → EachName P type → EachAppearance P (appearances at type)
+    appearances_of_names at (Var name) h = (h, tt)
+    appearances_of_names at (Con top kids) h = appearances_of_kid_names at 0 kids h
+    appearances_of_names at (choice dim left right) h =
+        each_append (appearances at left) (appearances at right) (appearances_of_names at left h.0) (appearances_of_names at right h.1)
+    appearances_of_names at Err h = tt
 
-    places_of_kid_names : (at : List ℕ) (n : ℕ) (kids : VKids) → EachKidName P kids → EachPlace P (kids_places at n kids)
-    places_of_kid_names at n Nil h = tt
-    places_of_kid_names at n (vkids_of kid kids) h =
-        each_append (places (at ++ n ∷ []) kid) (kids_places at (n + 1) kids) (places_of_names (at ++ n ∷ []) kid h.0) (places_of_kid_names at (n + 1) kids h.1)
+    appearances_of_kid_names : (at : List ℕ) (n : ℕ) (kids : VKids) → EachKidName P kids → EachAppearance P (kids_appearances at n kids)
+    appearances_of_kid_names at n Nil h = tt
+    appearances_of_kid_names at n (vkids_of kid kids) h =
+        each_append (appearances (at ++ n ∷ []) kid) (kids_appearances at (n + 1) kids) (appearances_of_names (at ++ n ∷ []) kid h.0) (appearances_of_kid_names at (n + 1) kids h.1)
 
   mutual
-    pub names_of_places : (at : List ℕ) (type : VType) → EachPlace P (places at type) → EachName P type
-    names_of_places at (Var name) h = h.0
-    names_of_places at (Con top kids) h = kid_names_of_places at 0 kids h
-    names_of_places at (choice dim left right) h =
-        let parts = each_of_append (places at left) (places at right) h in
-        (names_of_places at left parts.0, names_of_places at right parts.1)
-    names_of_places at Err h = tt
+    pub names_of_appearances : (at : List ℕ) (type : VType) → EachAppearance P (appearances at type) → EachName P type
+    names_of_appearances at (Var name) h = h.0
+    names_of_appearances at (Con top kids) h = kid_names_of_appearances at 0 kids h
+    names_of_appearances at (choice dim left right) h =
+        let parts = each_of_append (appearances at left) (appearances at right) h in
+        (names_of_appearances at left parts.0, names_of_appearances at right parts.1)
+    names_of_appearances at Err h = tt
 
-    kid_names_of_places : (at : List ℕ) (n : ℕ) (kids : VKids) → EachPlace P (kids_places at n kids) → EachKidName P kids
-    kid_names_of_places at n Nil h = tt
-    kid_names_of_places at n (vkids_of kid kids) h =
-        let parts = each_of_append (places (at ++ n ∷ []) kid) (kids_places at (n + 1) kids) h in
-        (names_of_places (at ++ n ∷ []) kid parts.0, kid_names_of_places at (n + 1) kids parts.1)
+    kid_names_of_appearances : (at : List ℕ) (n : ℕ) (kids : VKids) → EachAppearance P (kids_appearances at n kids) → EachKidName P kids
+    kid_names_of_appearances at n Nil h = tt
+    kid_names_of_appearances at n (vkids_of kid kids) h =
+        let parts = each_of_append (appearances (at ++ n ∷ []) kid) (kids_appearances at (n + 1) kids) h in
+        (names_of_appearances (at ++ n ∷ []) kid parts.0, kid_names_of_appearances at (n + 1) kids parts.1)
 
--- what follows for each place, or from two facts of each
-pub each_weaker : (P Q R : List ℕ → Type 0) (all : List (List ℕ × List ℕ)) → ((name : List ℕ) → P name → Q name → R name) → EachPlace P all → EachPlace Q all → EachPlace R all
+-- what follows for each appearance, or from two facts of each
+pub each_weaker : (P Q R : List ℕ → Type 0) (all : List (List ℕ × List ℕ)) → ((name : List ℕ) → P name → Q name → R name) → EachAppearance P all → EachAppearance Q all → EachAppearance R all
 each_weaker P Q R [] f h k = tt
-each_weaker P Q R (place ∷ all) f h k = (f place.0 h.0 k.0, each_weaker P Q R all f h.1 k.1)
+each_weaker P Q R (appearance ∷ all) f h k = (f appearance.0 h.0 k.0, each_weaker P Q R all f h.1 k.1)
 
--- the name of each place is found in the list
+-- the name of each appearance is found in the list
 abbrev pub IsFound : List (List ℕ × List ℕ) → List ℕ → Type 0
 IsFound all name = IsSome (lookup (bytes_eq name) all)
 
-found_later : (place : List ℕ × List ℕ) (all : List (List ℕ × List ℕ)) (name : List ℕ) → IsFound all name → IsFound (place ∷ all) name
-found_later place all name h = elim (cases_Bool (bytes_eq name place.0)) [ inl e ↦ rw e refl | inr e ↦ rw e h ]
+found_later : (appearance : List ℕ × List ℕ) (all : List (List ℕ × List ℕ)) (name : List ℕ) → IsFound all name → IsFound (appearance ∷ all) name
+found_later appearance all name h = elim (cases_Bool (bytes_eq name appearance.0)) [ inl e ↦ rw e refl | inr e ↦ rw e h ]
 
-pub each_found : (all : List (List ℕ × List ℕ)) → EachPlace (IsFound all) all
+pub each_found : (all : List (List ℕ × List ℕ)) → EachAppearance (IsFound all) all
 each_found [] = tt
-each_found (place ∷ all) =
-    let own : IsFound (place ∷ all) place.0 = rw ((bytes_eq-Decides place.0 place.0).1 refl) refl in
+each_found (appearance ∷ all) =
+    let own : IsFound (appearance ∷ all) appearance.0 = rw ((bytes_eq-Decides appearance.0 appearance.0).1 refl) refl in
     let more = each_found all in
-    (own, each_weaker (IsFound all) (IsFound all) (IsFound (place ∷ all)) all (λ name h _. found_later place all name h) more more)
+    (own, each_weaker (IsFound all) (IsFound all) (IsFound (appearance ∷ all)) all (λ name h _. found_later appearance all name h) more more)
 
 -- one renaming after another
 mutual
@@ -151,26 +151,26 @@ mutual
   kids_renamed-dims f n Nil h = tt
   kids_renamed-dims f n (vkids_of kid kids) h = (renamed-dims f n kid h.0, kids_renamed-dims f n kids h.1)
 
--- the places of a renamed type
-abbrev renamed_place : (List ℕ → List ℕ) → List ℕ × List ℕ → List ℕ × List ℕ
-renamed_place f place = (f place.0, place.1)
+-- the appearances of a renamed type
+abbrev renamed_appearance : (List ℕ → List ℕ) → List ℕ × List ℕ → List ℕ × List ℕ
+renamed_appearance f appearance = (f appearance.0, appearance.1)
 
 mutual
-  places-renamed : (f : List ℕ → List ℕ) (at : List ℕ) (type : VType) → places at (renamed f type) ≡ map (renamed_place f) (places at type)
-  places-renamed f at (Var name) = refl
-  places-renamed f at (Con top kids) = kids_places-renamed f at 0 kids
-  places-renamed f at (choice dim left right) =
-      (λ j. places-renamed f at left j ++ places-renamed f at right j)
-      ∙ sym (map-append (renamed_place f) (places at left) (places at right))
-  places-renamed f at Err = refl
+  appearances-renamed : (f : List ℕ → List ℕ) (at : List ℕ) (type : VType) → appearances at (renamed f type) ≡ map (renamed_appearance f) (appearances at type)
+  appearances-renamed f at (Var name) = refl
+  appearances-renamed f at (Con top kids) = kids_appearances-renamed f at 0 kids
+  appearances-renamed f at (choice dim left right) =
+      (λ j. appearances-renamed f at left j ++ appearances-renamed f at right j)
+      ∙ sym (map-append (renamed_appearance f) (appearances at left) (appearances at right))
+  appearances-renamed f at Err = refl
 
-  kids_places-renamed : (f : List ℕ → List ℕ) (at : List ℕ) (n : ℕ) (kids : VKids) → kids_places at n (kids_renamed f kids) ≡ map (renamed_place f) (kids_places at n kids)
-  kids_places-renamed f at n Nil = refl
-  kids_places-renamed f at n (vkids_of kid kids) =
-      (λ j. places-renamed f (at ++ n ∷ []) kid j ++ kids_places-renamed f at (n + 1) kids j)
-      ∙ sym (map-append (renamed_place f) (places (at ++ n ∷ []) kid) (kids_places at (n + 1) kids))
+  kids_appearances-renamed : (f : List ℕ → List ℕ) (at : List ℕ) (n : ℕ) (kids : VKids) → kids_appearances at n (kids_renamed f kids) ≡ map (renamed_appearance f) (kids_appearances at n kids)
+  kids_appearances-renamed f at n Nil = refl
+  kids_appearances-renamed f at n (vkids_of kid kids) =
+      (λ j. appearances-renamed f (at ++ n ∷ []) kid j ++ kids_appearances-renamed f at (n + 1) kids j)
+      ∙ sym (map-append (renamed_appearance f) (appearances (at ++ n ∷ []) kid) (kids_appearances at (n + 1) kids))
 
--- A renaming that can be undone keeps the first places.
+-- A renaming that can be undone keeps the first paths.
 module _ (f g : List ℕ → List ℕ) where
   abbrev Undone : List ℕ → Type 0
   Undone name = g (f name) ≡ name
@@ -180,23 +180,23 @@ module _ (f g : List ℕ → List ℕ) where
       one_answer (bytes_eq (f name) (f other)) (bytes_eq name other) (bytes_eq-Decides (f name) (f other))
       (λ e. ap f ((bytes_eq-Decides name other).0 e), λ e. (bytes_eq-Decides name other).1 (sym h ∙ ap g e ∙ k))
 
-  lookup-renamed : (name : List ℕ) (all : List (List ℕ × List ℕ)) → Undone name → EachPlace Undone all → lookup (bytes_eq (f name)) (map (renamed_place f) all) ≡ lookup (bytes_eq name) all
+  lookup-renamed : (name : List ℕ) (all : List (List ℕ × List ℕ)) → Undone name → EachAppearance Undone all → lookup (bytes_eq (f name)) (map (renamed_appearance f) all) ≡ lookup (bytes_eq name) all
   lookup-renamed name [] h each = refl
-  lookup-renamed name (place ∷ all) h each = λ j. cond (same_test name place.0 h each.0 j) (Some place.1) (lookup-renamed name all h each.1 j)
+  lookup-renamed name (appearance ∷ all) h each = λ j. cond (same_test name appearance.0 h each.0 j) (Some appearance.1) (lookup-renamed name all h each.1 j)
 
   either_name : (o : Option (List ℕ)) (one other : List ℕ) → IsSome o → unwrap_or o one ≡ unwrap_or o other
   either_name (Some path) one other h = refl
   either_name None one other h = absurd (true≢false (sym h))
 
-  pub by_first_place-renamed : (type : VType) → EachName Undone type → by_first_place (renamed f type) ≡ by_first_place type
-  by_first_place-renamed type each =
-      let all = places [] type in
-      let new : List ℕ → List ℕ = λ name. unwrap_or (lookup (bytes_eq name) (map (renamed_place f) all)) name in
+  pub by_first_path-renamed : (type : VType) → EachName Undone type → by_first_path (renamed f type) ≡ by_first_path type
+  by_first_path-renamed type each =
+      let all = appearances [] type in
+      let new : List ℕ → List ℕ = λ name. unwrap_or (lookup (bytes_eq name) (map (renamed_appearance f) all)) name in
       let old : List ℕ → List ℕ = λ name. unwrap_or (lookup (bytes_eq name) all) name in
-      let undone = places_of_names Undone [] type each in
+      let undone = appearances_of_names Undone [] type each in
       let same = each_weaker Undone (IsFound all) (λ name. new (f name) ≡ old name) all
       (λ name h found. ap (λ o. unwrap_or o (f name)) (lookup-renamed name all h undone) ∙ either_name (lookup (bytes_eq name) all) (f name) name found)
       undone (each_found all) in
-      ap (λ p. renamed (λ name. unwrap_or (lookup (bytes_eq name) p) name) (renamed f type)) (places-renamed f [] type)
+      ap (λ p. renamed (λ name. unwrap_or (lookup (bytes_eq name) p) name) (renamed f type)) (appearances-renamed f [] type)
       ∙ renamed-renamed new f type
-      ∙ renamed-agree (λ name. new (f name)) old type (names_of_places (λ name. new (f name) ≡ old name) [] type same)
+      ∙ renamed-agree (λ name. new (f name)) old type (names_of_appearances (λ name. new (f name) ≡ old name) [] type same)

@@ -41,13 +41,13 @@ after_is f None sign text h = sym (by (after sign text) refl)
     by None e = refl
     by (Some rest) e = absurd (h rest (after-read sign text rest e))
 
--- a name stands at the place where it is found
+-- a name stands at the index where it is found
 name-position : (names : List (List ℕ)) (number : ℕ) (name : List ℕ) → position (bytes_eq name) names ≡ Some number → slice_get names number ≡ Some name
 name-position names number name found =
-    let place = position-Some (bytes_eq name) names number name found in
-    slice_get-get_or names number name place.0 ∙ ap Some (sym ((bytes_eq-Decides name _).0 place.1))
+    let index = position-Some (bytes_eq name) names number name found in
+    slice_get-get_or names number name index.0 ∙ ap Some (sym ((bytes_eq-Decides name _).0 index.1))
 
--- where some element passes, the first such has a place
+-- where some element passes, the first such has a index
 pub position-some : {X : Type 0} (p : X → Bool) (xs : List X) (k : ℕ) (d : X) → k < length xs → p (get_or xs k d) ≡ true → position p xs ≡ Some (position_or_len p xs)
 position-some p xs k d within passes =
     let first : position_or_len p xs < length xs = elim (cases_lt k (position_or_len p xs)) [
@@ -62,9 +62,9 @@ position-here p xs k x at passes first =
     let within = slice_get_within xs k x at in
     let own : p (get_or xs k x) ≡ true = rw (get_or_from_slice_get xs k x x at) passes in
     let found = position-some p xs k x within own in
-    let place = position-Some p xs (position_or_len p xs) x found in
+    let index = position-Some p xs (position_or_len p xs) x found in
     let last : position_or_len p xs ≤ k = elim (cases_lt k (position_or_len p xs)) [
-      | inl before ↦ absurd (false≢true (sym (place.2 k before) ∙ own))
+      | inl before ↦ absurd (false≢true (sym (index.2 k before) ∙ own))
       | inr h ↦ h
     ] in
     let same : position_or_len p xs ≡ k = omega arith in
@@ -115,19 +115,19 @@ prefix_to_brace (byte ∷ name) rest lacks =
 -- the name before a brace, where it has none
 name_at-front : (name rest : List ℕ) → (Contains name 123 → ⊥) → name_at (name ++ 123 ∷ rest) ≡ Some (name, rest)
 name_at-front name rest lacks =
-    let place = prefix_to_brace name rest lacks in
+    let index = prefix_to_brace name rest lacks in
     let within : length name < length (name ++ 123 ∷ rest) = rw (length-append name (123 ∷ rest)) (omega arith) in
     let front : take (length name) (name ++ 123 ∷ rest) ≡ name = take_at name (123 ∷ rest) (length name) refl in
     let past : drop (length name + 1) (name ++ 123 ∷ rest) ≡ rest = rw (← append_assoc name (123 ∷ []) rest) (drop_at (name ++ 123 ∷ []) rest _ (length_push name 123)) in
-    rw (place, lt-ltb _ _ within, front, past) refl
+    rw (index, lt-ltb _ _ within, front, past) refl
 
 -- a name that is found stands before a brace
 name_at-read : (text : List ℕ) (found : List ℕ × List ℕ) → name_at text ≡ Some found → text ≡ found.0 ++ 123 ∷ found.1
 name_at-read text found h =
     option_and_then_some _ (position (λ byte. byte == 123) text) found h (λ n at is.
-    let place = position-Some (λ byte. byte == 123) text n 0 at in
-    let brace = eqb-true _ 123 place.1 in
-    rw (← same_Some _ _ is) (sym (take-append-drop n text) ∙ ap (λ t. take n text ++ t) (drop_more text n 0 place.0 ∙ ap (λ b. b ∷ drop (n + 1) text) brace)))
+    let index = position-Some (λ byte. byte == 123) text n 0 at in
+    let brace = eqb-true _ 123 index.1 in
+    rw (← same_Some _ _ is) (sym (take-append-drop n text) ∙ ap (λ t. take n text ++ t) (drop_more text n 0 index.0 ∙ ap (λ b. b ∷ drop (n + 1) text) brace)))
 
 -- the dimension of a name before a brace, where names differ and it has no brace
 pub dim_at-front : (dims : List (List ℕ)) (dim : ℕ) (name rest : List ℕ) → AreDistinct dims → slice_get dims dim ≡ Some name → (Contains name 123 → ⊥) → dim_at dims (name ++ 123 ∷ rest) ≡ Some (dim, rest)
@@ -145,6 +145,6 @@ dim_at-read dims text found h =
 pub dim_at_is : (dims : List (List ℕ)) (text : List ℕ) (brace number : ℕ) (name back : List ℕ)
     → position (λ byte. byte == 123) text ≡ Some brace → name ≡ take brace text → back ≡ drop brace text → position (bytes_eq name) dims ≡ Some number
     → dim_at dims text ≡ Some (number, take (length back - 1) (drop 1 back))
-dim_at_is dims text brace number name back place front rest found =
+dim_at_is dims text brace number name back index front rest found =
     let named : position (bytes_eq (take brace text)) dims ≡ Some number = rw (← front) found in
-    rw (place, named, rest, take_rest (drop brace text) 1, drop-drop 1 brace text) refl
+    rw (index, named, rest, take_rest (drop brace text) 1, drop-drop 1 brace text) refl

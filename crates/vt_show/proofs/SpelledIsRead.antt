@@ -4,11 +4,11 @@ use Rattle.std.proofs.lemmas.Option.{same_Some, slice_get_within, get_or_from_sl
 use Rattle.vt_type.specs.declared.vtype.VType.{VType, Var}
 use Rattle.vt_type.specs.Names.{AreDistinct}
 use Rattle.vt_type.specs.Text.{letter}
-use Rattle.vt_show.specs.Reading.{Spells, int, bool, string, error, variable, list, parentheses, either, pair, one_atom, arrow, no_arrow, renamed, by_first_place, LackBraces}
+use Rattle.vt_show.specs.Reading.{Spells, int, bool, string, error, variable, list, parentheses, either, pair, one_atom, arrow, no_arrow, renamed, by_first_path, LackBraces}
 use Rattle.vt_show.specs.Steps.{Step, after, letter_at, atom_with, pair_with, arrow_with, type_at, type_of}
 use Rattle.vt_show.proofs.Signs.{dim_at-front}
 use Rattle.vt_show.proofs.LetterTexts.{EndsLetter, letter_length-front, number_name, number_name-letter}
-use Rattle.vt_show.proofs.Renamings.{EachName, renamed-renamed, renamed-same, by_first_place-renamed}
+use Rattle.vt_show.proofs.Renamings.{EachName, renamed-renamed, renamed-same, by_first_path-renamed}
 
 -- What a text spells is read from it.
 
@@ -111,10 +111,10 @@ pub numbered-lettered : (dims : List (List ℕ)) (level : ℕ) (text : List ℕ)
 numbered-lettered dims level text type h =
     renamed-renamed number_name letter_name type ∙ renamed-same (λ name. number_name (letter_name name)) type (spelled_names dims level text type h)
 
--- first places stay under letters
-pub by_first_place-lettered : (dims : List (List ℕ)) (text : List ℕ) (type : VType) → Spells dims 0 text type → by_first_place (lettered type) ≡ by_first_place type
-by_first_place-lettered dims text type h =
-    by_first_place-renamed letter_name number_name type (spelled_names dims 0 text type h)
+-- first paths stay under letters
+pub by_first_path-lettered : (dims : List (List ℕ)) (text : List ℕ) (type : VType) → Spells dims 0 text type → by_first_path (lettered type) ≡ by_first_path type
+by_first_path-lettered dims text type h =
+    by_first_path-renamed letter_name number_name type (spelled_names dims 0 text type h)
 
 -- a text spells at most one type
 pub one_type : (dims : List (List ℕ)) → AreDistinct dims → LackBraces dims → (text : List ℕ) (one other : VType) → Spells dims 0 text one → Spells dims 0 text other → one ≡ other

@@ -7,7 +7,7 @@ use Rattle.vt_type.specs.Variational.{selected}
 use Rattle.vt_type.specs.NormalForm.{map_of, Total, IsNormalFormOf}
 use Rattle.vt_type.specs.Names.{AreDistinct}
 use Rattle.vt_type.specs.Text.{text_of}
-use Rattle.vt_show.specs.Reading.{Spells, IsRead, IsReading, LackBraces}
+use Rattle.vt_show.specs.Reading.{Spells, IsRead, IsReadingOf, LackBraces}
 use Rattle.vt_show.specs.Conditions.{DimsBelow, HasNoData}
 
 -- A text spells at most one type, where no name of a dimension stands twice or holds a brace.
@@ -33,4 +33,4 @@ NormalFormsAreReadAlone =
     (dims : List (List ℕ)) (type form : VType) → AreDistinct dims → LackBraces dims
     → IsCanonicalEverywhere type → IsNormalFormOf form (map_of type)
     → DimsBelow (length dims) form → HasNoData form
-    → (read : Option VType) → IsReading dims (text_of dims form) read → read ≡ Some form
+    → (read : Option VType) → IsReadingOf dims (text_of dims form) read → read ≡ Some form

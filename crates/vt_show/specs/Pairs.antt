@@ -19,12 +19,13 @@ abbrev mutual
   of_plain_kids plain_kids.Nil = Nil
   of_plain_kids (kids_of kid kids) = vkids_of (of_plain kid) (of_plain_kids kids)
 
--- a wanted type and the type that results, over the names of the dimensions, with letters over both in
--- the order in which they appear
+-- a wanted type and the type that results, over the names of the dimensions and those of the variables
+abbrev pub both_shown : List (List ℕ) → List (List ℕ) → VType → VType → List ℕ
+both_shown dims names wanted outcome = codes "wants " ++ shown dims names 0 wanted ++ codes ", result " ++ shown dims names 0 outcome
+
+-- the same, with letters over both in the order in which they appear
 abbrev pub both_text : List (List ℕ) → VType → VType → List ℕ
-both_text dims wanted outcome =
-    let names = distinct (variables wanted ++ variables outcome) in
-    codes "wants " ++ shown dims names 0 wanted ++ codes ", result " ++ shown dims names 0 outcome
+both_text dims wanted outcome = both_shown dims (distinct (variables wanted ++ variables outcome)) wanted outcome
 
 -- The text of a wanted type and the type that results. A plain type has no dimensions.
 abbrev pub pair_text : Plain → Plain → List ℕ

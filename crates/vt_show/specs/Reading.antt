@@ -29,18 +29,18 @@ pub data Spells (dims : List (List ℕ)) : ℕ → List ℕ → VType → Type 0
       → Spells dims 0 (left ++ codes " -> " ++ right) (Con Fun (vkids_of from (vkids_of to Nil)))
   no_arrow : (text : List ℕ) (type : VType) → Spells dims 1 text type → Spells dims 0 text type
 
--- the variables of a type in the order of its text, each with the path at which it stands; choices are
+-- the appearances of variables in the order of the text, each with the path at which it stands; choices are
 -- no step of a path
 abbrev mutual
-  pub places : List ℕ → VType → List (List ℕ × List ℕ)
-  places at (Var name) = (name, at) ∷ []
-  places at (Con top kids) = kids_places at 0 kids
-  places at (choice dim left right) = places at left ++ places at right
-  places at Err = []
+  pub appearances : List ℕ → VType → List (List ℕ × List ℕ)
+  appearances at (Var name) = (name, at) ∷ []
+  appearances at (Con top kids) = kids_appearances at 0 kids
+  appearances at (choice dim left right) = appearances at left ++ appearances at right
+  appearances at Err = []
 
-  pub kids_places : List ℕ → ℕ → VKids → List (List ℕ × List ℕ)
-  kids_places at n Nil = []
-  kids_places at n (vkids_of kid kids) = places (at ++ n ∷ []) kid ++ kids_places at (n + 1) kids
+  pub kids_appearances : List ℕ → ℕ → VKids → List (List ℕ × List ℕ)
+  kids_appearances at n Nil = []
+  kids_appearances at n (vkids_of kid kids) = appearances (at ++ n ∷ []) kid ++ kids_appearances at (n + 1) kids
 
 -- each variable under another name
 abbrev mutual
@@ -55,17 +55,18 @@ abbrev mutual
   kids_renamed name_of (vkids_of kid kids) = vkids_of (renamed name_of kid) (kids_renamed name_of kids)
 
 -- each variable named by the path of its first appearance
-abbrev pub by_first_place : VType → VType
-by_first_place type = renamed (first_name (places [] type)) type
+abbrev pub by_first_path : VType → VType
+by_first_path type = renamed (first_name (appearances [] type)) type
 
--- The text is read as this type: it spells one whose variables, named by their first places, make it.
+-- The text is read as this type: it spells one whose variables, named by the paths of their first
+-- appearances, make it.
 abbrev pub IsRead : List (List ℕ) → List ℕ → VType → Type 0
-IsRead dims text type = (spelled : VType) × Spells dims 0 text spelled × (type ≡ by_first_place spelled)
+IsRead dims text type = (spelled : VType) × Spells dims 0 text spelled × (type ≡ by_first_path spelled)
 
 -- what a reader answers: the type that the text is read as, or nothing where it spells none
-abbrev pub IsReading : List (List ℕ) → List ℕ → Option VType → Type 0
-IsReading dims text (Some type) = IsRead dims text type
-IsReading dims text None = (spelled : VType) → Spells dims 0 text spelled → ⊥
+abbrev pub IsReadingOf : List (List ℕ) → List ℕ → Option VType → Type 0
+IsReadingOf dims text (Some type) = IsRead dims text type
+IsReadingOf dims text None = (spelled : VType) → Spells dims 0 text spelled → ⊥
 
 -- no name holds the brace that ends it in a text
 abbrev pub LackBraces : List (List ℕ) → Type 0

@@ -5,11 +5,11 @@
 //! A text is written from left to right into one string, over the variables of the type, collected
 //! once (letters.rt, writer.rt). It is read by descent over its bytes, each step of which does what
 //! specs/Steps.antt says (reader.rt), and then the variables are named by where they appear first
-//! (first_places.rt).
+//! (first_paths.rt).
 
 #![tactic(auto)]
 
-mod first_places;
+mod first_paths;
 pub mod laws;
 mod letters;
 mod level;

@@ -2,9 +2,9 @@
 ghost use Rattle.std.specs.Prelude.{◌≤◌, length, IfOk, IfSome};
 ghost use Rattle.vt_type.specs.Variational.{IsWellFormedV, most_dimensions};
 ghost use Rattle.vt_show.specs.Conditions.{DimsBelow};
-ghost use Rattle.vt_show.specs.Reading.{IsReading, LackBraces};
+ghost use Rattle.vt_show.specs.Reading.{IsReadingOf, LackBraces};
 
-use crate::first_places::by_first_place;
+use crate::first_paths::by_first_path;
 use crate::reader::{Miss, read_whole};
 use std::alloc::{AllocError, Global};
 use vt_type::{Tables, VType};
@@ -14,13 +14,13 @@ use vt_type::{Tables, VType};
 pub fn read_type(alloc: Global, text: &str, tables: &Tables) -> Result<Option<VType>, AllocError>
     requires few { length tables.now.dims ≤ most_dimensions }
     requires no_brace { LackBraces tables.now.dims }
-    ensures read { IfOk result (λ read. IsReading tables.now.dims text.now read) }
+    ensures read { IfOk result (λ read. IsReadingOf tables.now.dims text.now read) }
     ensures well_formed { IfOk result (λ read. IfSome read IsWellFormedV) }
-    ensures named { IfOk result (λ read. IfSome read (DimsBelow (length tables.now.dims))) }
+    ensures dims { IfOk result (λ read. IfSome read (DimsBelow (length tables.now.dims))) }
 {
     tables.dims.distinct();
     match read_whole(alloc, text.as_bytes(), &tables.dims) {
-        Ok(lettered) => Ok(Some(by_first_place(alloc, &lettered)?)),
+        Ok(lettered) => Ok(Some(by_first_path(alloc, lettered.get())?)),
         Err(Miss::NotSpelled) => Ok(None),
         Err(Miss::Memory(error)) => Err(error),
     }

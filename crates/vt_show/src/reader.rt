@@ -4,11 +4,12 @@ ghost use Rattle.std.specs.List.{prefix_len};
 ghost use Rattle.std.specs.Option.{option_map, option_copied};
 ghost use Rattle.std.specs.Str.{bytes_eq};
 ghost use Rattle.vt_type.specs.declared.vtype.VType.{Var};
-ghost use Rattle.vt_type.specs.Variational.{most_dimensions};
+ghost use Rattle.vt_type.specs.Variational.{choice, most_dimensions};
 ghost use Rattle.vt_show.specs.declared.reader.Miss.TheVariants.{Memory};
 ghost use Rattle.vt_show.specs.Steps.{after, is_digit, is_small_letter, has_zero, letter_length, letter_at, word_at, dim_at, one, two, list_with, inside_with, choice_with, atom_with, pair_with, arrow_with, type_at, type_of};
 ghost use Rattle.vt_show.specs.Misses.{IfNotSpelled};
 
+use sqlite_items::Boxed;
 use std::alloc::{AllocError, Global};
 use vt_dec::Dim;
 use vt_type::{Head, Names, Path, VKids, VType};
@@ -30,7 +31,7 @@ impl From<AllocError> for Miss {
 }
 
 /// The type of a whole text. A variable has the text of its letter for its name.
-pub(crate) fn read_whole(alloc: Global, text: &[u8], dims: &Names) -> Result<VType, Miss>
+pub(crate) fn read_whole(alloc: Global, text: &[u8], dims: &Names) -> Result<Boxed<VType>, Miss>
     requires { length dims.now ≤ most_dimensions }
     ensures { MatchResult result (λ vtype. type_of dims.now text.now ≡ Some vtype) (IfNotSpelled (type_of dims.now text.now ≡ None)) }
 {
@@ -43,7 +44,11 @@ pub(crate) fn read_whole(alloc: Global, text: &[u8], dims: &Names) -> Result<VTy
 }
 
 #[cycle(reader)]
-fn read_arrow<'a>(alloc: Global, text: &'a [u8], dims: &Names) -> Result<(VType, &'a [u8]), Miss>
+fn read_arrow<'a>(
+    alloc: Global,
+    text: &'a [u8],
+    dims: &Names,
+) -> Result<(Boxed<VType>, &'a [u8]), Miss>
     requires { length dims.now ≤ most_dimensions }
     ensures read { (fuel : ℕ) → length text.now < fuel → MatchResult result (λ found. type_at dims.now fuel text.now ≡ Some (found.0, found.1.now)) (IfNotSpelled (type_at dims.now fuel text.now ≡ None)) }
     ensures shorter { IfOk result (λ found. length found.1.now < length text.now) }
@@ -57,7 +62,11 @@ fn read_arrow<'a>(alloc: Global, text: &'a [u8], dims: &Names) -> Result<(VType,
 }
 
 #[cycle(reader)]
-fn read_pair<'a>(alloc: Global, text: &'a [u8], dims: &Names) -> Result<(VType, &'a [u8]), Miss>
+fn read_pair<'a>(
+    alloc: Global,
+    text: &'a [u8],
+    dims: &Names,
+) -> Result<(Boxed<VType>, &'a [u8]), Miss>
     requires { length dims.now ≤ most_dimensions }
     ensures read { (fuel : ℕ) → length text.now ≤ fuel → MatchResult result (λ found. pair_with dims.now (type_at dims.now fuel) text.now ≡ Some (found.0, found.1.now)) (IfNotSpelled (pair_with dims.now (type_at dims.now fuel) text.now ≡ None)) }
     ensures shorter { IfOk result (λ found. length found.1.now < length text.now) }
@@ -71,13 +80,17 @@ fn read_pair<'a>(alloc: Global, text: &'a [u8], dims: &Names) -> Result<(VType, 
 }
 
 #[cycle(reader)]
-fn read_atom<'a>(alloc: Global, text: &'a [u8], dims: &Names) -> Result<(VType, &'a [u8]), Miss>
+fn read_atom<'a>(
+    alloc: Global,
+    text: &'a [u8],
+    dims: &Names,
+) -> Result<(Boxed<VType>, &'a [u8]), Miss>
     requires { length dims.now ≤ most_dimensions }
     ensures read { (fuel : ℕ) → length text.now ≤ fuel → MatchResult result (λ found. atom_with dims.now (type_at dims.now fuel) text.now ≡ Some (found.0, found.1.now)) (IfNotSpelled (atom_with dims.now (type_at dims.now fuel) text.now ≡ None)) }
     ensures shorter { IfOk result (λ found. length found.1.now < length text.now) }
 {
-    if let Some(found) = word(text) {
-        return Ok(found);
+    if let Some((vtype, rest)) = word(text) {
+        return Ok((Boxed::new(alloc, vtype)?, rest));
     }
     if let Some(rest) = after(text, b"[") {
         return read_list(alloc, rest, dims);
@@ -93,7 +106,11 @@ fn read_atom<'a>(alloc: Global, text: &'a [u8], dims: &Names) -> Result<(VType, 
 
 // The rest of a list, after its bracket.
 #[cycle(reader)]
-fn read_list<'a>(alloc: Global, text: &'a [u8], dims: &Names) -> Result<(VType, &'a [u8]), Miss>
+fn read_list<'a>(
+    alloc: Global,
+    text: &'a [u8],
+    dims: &Names,
+) -> Result<(Boxed<VType>, &'a [u8]), Miss>
     requires { length dims.now ≤ most_dimensions }
     ensures read { (fuel : ℕ) → length text.now < fuel → MatchResult result (λ found. list_with dims.now (type_at dims.now fuel) text.now ≡ Some (found.0, found.1.now)) (IfNotSpelled (list_with dims.now (type_at dims.now fuel) text.now ≡ None)) }
     ensures shorter { IfOk result (λ found. length found.1.now < length text.now) }
@@ -105,7 +122,11 @@ fn read_list<'a>(alloc: Global, text: &'a [u8], dims: &Names) -> Result<(VType, 
 
 // The rest of a type in parentheses.
 #[cycle(reader)]
-fn read_inside<'a>(alloc: Global, text: &'a [u8], dims: &Names) -> Result<(VType, &'a [u8]), Miss>
+fn read_inside<'a>(
+    alloc: Global,
+    text: &'a [u8],
+    dims: &Names,
+) -> Result<(Boxed<VType>, &'a [u8]), Miss>
     requires { length dims.now ≤ most_dimensions }
     ensures read { (fuel : ℕ) → length text.now < fuel → MatchResult result (λ found. inside_with dims.now (type_at dims.now fuel) text.now ≡ Some (found.0, found.1.now)) (IfNotSpelled (inside_with dims.now (type_at dims.now fuel) text.now ≡ None)) }
     ensures shorter { IfOk result (λ found. length found.1.now < length text.now) }
@@ -117,7 +138,11 @@ fn read_inside<'a>(alloc: Global, text: &'a [u8], dims: &Names) -> Result<(VType
 
 // The rest of a choice, from the name of its dimension on.
 #[cycle(reader)]
-fn read_choice<'a>(alloc: Global, text: &'a [u8], dims: &Names) -> Result<(VType, &'a [u8]), Miss>
+fn read_choice<'a>(
+    alloc: Global,
+    text: &'a [u8],
+    dims: &Names,
+) -> Result<(Boxed<VType>, &'a [u8]), Miss>
     requires { length dims.now ≤ most_dimensions }
     ensures read { (fuel : ℕ) → length text.now < fuel → MatchResult result (λ found. choice_with dims.now (type_at dims.now fuel) text.now ≡ Some (found.0, found.1.now)) (IfNotSpelled (choice_with dims.now (type_at dims.now fuel) text.now ≡ None)) }
     ensures shorter { IfOk result (λ found. length found.1.now < length text.now) }
@@ -127,7 +152,7 @@ fn read_choice<'a>(alloc: Global, text: &'a [u8], dims: &Names) -> Result<(VType
     let rest = expect(rest, b", ")?;
     let (right, rest) = read_arrow(alloc, rest, dims)?;
     let rest = expect(rest, b"}")?;
-    Ok((VType::choice(alloc, Dim(dim), left, right)?, rest))
+    Ok((choice(alloc, Dim(dim), left, right)?, rest))
 }
 
 // The dimension with the name up to the brace, and what stands after the brace.
@@ -136,7 +161,7 @@ fn read_dimension<'a>(text: &'a [u8], dims: &Names) -> Result<(u32, &'a [u8]), M
     ensures read { MatchResult result (λ found. dim_at dims.now text.now ≡ Some (found.0, found.1.now)) (IfNotSpelled (dim_at dims.now text.now ≡ None)) }
     ensures shorter { IfOk result (λ found. length found.1.now < length text.now) }
 {
-    let Some(brace) = place_of_brace(text) else {
+    let Some(brace) = index_of_brace(text) else {
         return Err(Miss::NotSpelled);
     };
     let (name, rest) = text.split_at(brace);
@@ -146,9 +171,9 @@ fn read_dimension<'a>(text: &'a [u8], dims: &Names) -> Result<(u32, &'a [u8]), M
     Ok((number, &rest[1..]))
 }
 
-fn place_of_brace(text: &[u8]) -> Option<usize>
-    ensures place { result ≡ position (λ byte. byte == 123) text.now }
-    ensures within { IfSome result (λ place. place < length text.now) }
+fn index_of_brace(text: &[u8]) -> Option<usize>
+    ensures index { result ≡ position (λ byte. byte == 123) text.now }
+    ensures within { IfSome result (λ index. index < length text.now) }
 {
     text.iter().position(|byte| *byte == b'{')
 }
@@ -159,8 +184,8 @@ fn number_of(dims: &Names, name: &[u8]) -> Option<u32>
     ensures { result ≡ position (bytes_eq name.now) dims.now }
 {
     for number in 0..dims.len() as u32 {
-        let own = dims.name(number).unwrap();
-        if own.as_bytes() == name {
+        let known = dims.name(number).unwrap();
+        if known.as_bytes() == name {
             return Some(number);
         }
     }
@@ -185,7 +210,7 @@ fn word(text: &[u8]) -> Option<(VType, &[u8])>
     Some((VType::Err, rest))
 }
 
-fn read_letter<'a>(alloc: Global, text: &'a [u8]) -> Result<(VType, &'a [u8]), Miss>
+fn read_letter<'a>(alloc: Global, text: &'a [u8]) -> Result<(Boxed<VType>, &'a [u8]), Miss>
     ensures read { MatchResult result (λ found. letter_at text.now ≡ Some (found.0, found.1.now)) (IfNotSpelled (letter_at text.now ≡ None)) }
     ensures shorter { IfOk result (λ found. length found.1.now < length text.now) }
 {
@@ -194,7 +219,7 @@ fn read_letter<'a>(alloc: Global, text: &'a [u8]) -> Result<(VType, &'a [u8]), M
     };
     let (letter, rest) = text.split_at(length);
     let name = Path::new(Vec::from_slice(alloc, letter)?);
-    Ok((VType::Var(name), rest))
+    Ok((Boxed::new(alloc, VType::Var(name))?, rest))
 }
 
 // How long the letter at the front is: a quote, a small letter, and a number or nothing.
@@ -259,15 +284,33 @@ fn after<'a>(text: &'a [u8], sign: &[u8]) -> Option<&'a [u8]>
     text.strip_prefix(sign)
 }
 
-fn one(alloc: Global, head: Head, kid: VType) -> Result<VType, AllocError>
-    ensures { IfOk result (λ vtype. vtype ≡ one head kid) }
+fn choice(
+    alloc: Global,
+    dim: Dim,
+    left: Boxed<VType>,
+    right: Boxed<VType>,
+) -> Result<Boxed<VType>, AllocError>
+    ensures { IfOk result (λ vtype. vtype ≡ choice dim left right) }
 {
-    Ok(VType::Con(head, VKids::more(alloc, kid, VKids::Nil)?))
+    Boxed::new(alloc, VType::Choice(dim, left, right))
 }
 
-fn two(alloc: Global, head: Head, left: VType, right: VType) -> Result<VType, AllocError>
+fn one(alloc: Global, head: Head, kid: Boxed<VType>) -> Result<Boxed<VType>, AllocError>
+    ensures { IfOk result (λ vtype. vtype ≡ one head kid) }
+{
+    let none = Boxed::new(alloc, VKids::Nil)?;
+    Boxed::new(alloc, VType::Con(head, VKids::More(kid, none)))
+}
+
+fn two(
+    alloc: Global,
+    head: Head,
+    left: Boxed<VType>,
+    right: Boxed<VType>,
+) -> Result<Boxed<VType>, AllocError>
     ensures { IfOk result (λ vtype. vtype ≡ two head left right) }
 {
-    let others = VKids::more(alloc, right, VKids::Nil)?;
-    Ok(VType::Con(head, VKids::more(alloc, left, others)?))
+    let none = Boxed::new(alloc, VKids::Nil)?;
+    let others = Boxed::new(alloc, VKids::More(right, none))?;
+    Boxed::new(alloc, VType::Con(head, VKids::More(left, others)))
 }

@@ -27,8 +27,13 @@ fn variational_kids(kids: &PlainKids, alloc: Global) -> Result<VKids, AllocError
         PlainKids::Nil => Ok(VKids::Nil),
         PlainKids::More(first, others) => {
             let first = variational(first.get(), alloc)?;
-            let others = variational_kids(others.get(), alloc)?;
-            VKids::more(alloc, first, others)
+            match variational_kids(others.get(), alloc) {
+                Ok(others) => VKids::more(alloc, first, others),
+                Err(error) => {
+                    drop(first);
+                    Err(error)
+                }
+            }
         }
     }
 }

@@ -27,7 +27,7 @@ pub(crate) fn write_type(
     out: &mut String,
 ) -> Result<(), AllocError>
     requires well_formed { IsWellFormedV vtype.now }
-    requires named { DimsBelow (length dims.now) vtype.now }
+    requires dims { DimsBelow (length dims.now) vtype.now }
     ensures { OnOk result (string_bytes out.new ≡ string_bytes out.old ++ shown dims.now letters.now (level_number level) vtype.now) }
 {
     match vtype {
@@ -57,7 +57,7 @@ fn write_con(
     out: &mut String,
 ) -> Result<(), AllocError>
     requires well_formed { IsWellFormedV (Con head kids.now) }
-    requires named { KidsDimsBelow (length dims.now) kids.now }
+    requires dims { KidsDimsBelow (length dims.now) kids.now }
     ensures { OnOk result (string_bytes out.new ≡ string_bytes out.old ++ shown dims.now letters.now (level_number level) (Con head kids.now)) }
 {
     match head {
@@ -80,7 +80,7 @@ fn write_list(
 ) -> Result<(), AllocError>
     requires count { vkid_count kids.now ≡ 1 }
     requires well_formed { AreWellFormedV kids.now }
-    requires named { KidsDimsBelow (length dims.now) kids.now }
+    requires dims { KidsDimsBelow (length dims.now) kids.now }
     ensures { OnOk result (string_bytes out.new ≡ string_bytes out.old ++ shown dims.now letters.now 0 (Con head.List kids.now)) }
 {
     push(out, "[")?;
@@ -98,7 +98,7 @@ fn write_pair(
 ) -> Result<(), AllocError>
     requires count { vkid_count kids.now ≡ 2 }
     requires well_formed { AreWellFormedV kids.now }
-    requires named { KidsDimsBelow (length dims.now) kids.now }
+    requires dims { KidsDimsBelow (length dims.now) kids.now }
     ensures { OnOk result (string_bytes out.new ≡ string_bytes out.old ++ shown dims.now letters.now (level_number level) (Con head.Pair kids.now)) }
 {
     let (left, right) = both(kids);
@@ -120,7 +120,7 @@ fn write_arrow(
 ) -> Result<(), AllocError>
     requires count { vkid_count kids.now ≡ 2 }
     requires well_formed { AreWellFormedV kids.now }
-    requires named { KidsDimsBelow (length dims.now) kids.now }
+    requires dims { KidsDimsBelow (length dims.now) kids.now }
     ensures { OnOk result (string_bytes out.new ≡ string_bytes out.old ++ shown dims.now letters.now (level_number level) (Con head.Fun kids.now)) }
 {
     let (from, to) = both(kids);

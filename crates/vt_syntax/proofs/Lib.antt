@@ -6,3 +6,6 @@ pub mod Holing
 pub mod GreatestLemmas
 pub mod Counting
 pub mod Choosing
+pub mod LeafPlaces
+pub mod WholeProgram
+pub mod SelectingVaried

@@ -8,3 +8,4 @@ pub mod Checking
 pub mod Scoping
 pub mod Holes
 pub mod Leaves
+pub mod Varying

@@ -1,6 +1,6 @@
 use Rattle.std.proofs.Common.{◌≡◌, ℕ, ◌+◌, ◌<◌, inl, inr, List, length, replicate, Option, Some, None, IfSome, arith, refl, sym, subst, ap, ◌∙◌}
 use Rattle.std.proofs.lemmas.List.{length-replicate}
-use Rattle.vt_io.specs.Written.{Grows}
+use Rattle.vt_io.specs.Written.{GrowsBy}
 use Rattle.vt_top.specs.declared.status.Status.{Status}
 use Rattle.vt_top.specs.declared.status.Status.TheVariants.{Done, Untyped, Usage, Refused, ReadFault, WriteFault, NoMemory}
 use Rattle.vt_top.specs.declared.typing.TypeFault.TheVariants.{TooBig}
@@ -41,7 +41,7 @@ out_prepares call WriteFault text out = no_write_fault (command_of call.words) c
 out_prepares call NoMemory text out = absurd (no_want (command_of call.words) call.held text out)
 
 -- A text that was written whole is the answer of its status.
-whole_answers : (call : Call) (status : Status) (text : List ℕ) → Prepares call status text → Grows call.written call.written_after text → Answers call status
+whole_answers : (call : Call) (status : Status) (text : List ℕ) → Prepares call status text → GrowsBy call.written call.written_after text → Answers call status
 whole_answers call Done text p grew = (text, p, grew)
 whole_answers call Untyped text p grew = (text, p, grew)
 whole_answers call Usage text p grew = (text, p, grew)
@@ -79,7 +79,7 @@ module _ (bytes : List ℕ) (program : Program) (core : CoreProgram) (leaves : L
         parts = main.parts;
         normal = main.normal;
         small = main.small;
-        shown = printed.0 ∙ ap (λ names. line (text_of names type)) source.named;
+        shown = printed.0 ∙ ap (λ names. line (text_of names type)) source.dims_are;
       } in
       elim (printed.1) [
         | inl done ↦ subst (λ s. FileAnswer bytes s text) (sym done.0) (type, typed, done.1)
@@ -95,5 +95,5 @@ module _ (bytes : List ℕ) (program : Program) (core : CoreProgram) (leaves : L
         resolved = core_of bytes program core leaves dims source;
         part = part;
         first = first;
-        named = ap TooBigPart named;
+        refusal_is = ap TooBigPart named;
       })

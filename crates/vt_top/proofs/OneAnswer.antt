@@ -66,7 +66,7 @@ one_too_big : (bytes : List ℕ) (r s : Refusal) → IsTooBigToPrint bytes r →
 one_too_big bytes r s h k =
     let cores = (core_once bytes h.program k.program h.core k.core h.resolved k.resolved).1 in
     let part = part_once k.core h.part k.part (subst (λ c. IsFirstTooBig c h.part) cores h.first) k.first in
-    h.named ∙ (λ i. TooBigPart (part_name (cores i) (part i))) ∙ sym k.named
+    h.refusal_is ∙ (λ i. TooBigPart (part_name (cores i) (part i))) ∙ sym k.refusal_is
 
 one_refusal : (bytes : List ℕ) (r s : Refusal) → IsRefused bytes r → IsRefused bytes s → r ≡ s
 one_refusal bytes r s (inl h) (inl k) = one_cause bytes r s h k

@@ -86,5 +86,5 @@ last_means core type normal =
 pub main_is : (core : CoreProgram) (type : VType) → ((part : ℕ) → part < length core.defs → IsFitting core part) → IsPartType core (length core.defs) type → IsMainType core type
 main_is core type parts is = record { parts = parts; normal = last_means core type is.normal; small = is.small }
 
-pub main_named : (core : CoreProgram) (dims : ℕ) (type : VType) → IsTypable core dims → IsMainType core type → DimsBelow dims type
-main_named core dims type typable is = meaning_below core_constants core dims type Total typable.closed.dims_are is.normal
+pub main_dims : (core : CoreProgram) (dims : ℕ) (type : VType) → IsTypable core dims → IsMainType core type → DimsBelow dims type
+main_dims core dims type typable is = meaning_below core_constants core dims type Total typable.closed.dims_are is.normal

@@ -1,6 +1,6 @@
 use Rattle.std.specs.Prelude.{◌≡◌, ℕ, ◌+◌, ◌<◌, ◌≤◌, ◌⊎◌, List, length, Option, Some, None, IfSome, IsSome, IsSomeAnd, Contains}
 use Rattle.vt_io.specs.Counts.{Rose}
-use Rattle.vt_io.specs.Written.{Grows, GrowsByFront}
+use Rattle.vt_io.specs.Written.{GrowsBy, GrowsByPrefix}
 use Rattle.vt_type.specs.declared.vtype.VType.{VType}
 use Rattle.vt_type.specs.Constants.{core_constants}
 use Rattle.vt_type.specs.Variational.{HasError, nodes}
@@ -83,20 +83,20 @@ Prepares call NoMemory text = text ≡ no_memory_line
 Prepares call WriteFault text = ⊥
 Prepares call status text = Out (command_of call.words) call.held status text
 
--- The answer of a call. Where the sink fails it is WriteFault, whatever the text, and a front of the
+-- The answer of a call. Where the sink fails it is WriteFault, whatever the text, and a prefix of the
 -- text that would have come was written; otherwise the whole text was written and nothing else.
 abbrev pub Answers : Call → Status → Type 0
 Answers call WriteFault =
     Rose call.write_faults call.write_faults_after
-    × (status : Status) × (text : List ℕ) × Prepares call status text × GrowsByFront call.written call.written_after text
-Answers call status = (text : List ℕ) × Prepares call status text × Grows call.written call.written_after text
+    × (status : Status) × (text : List ℕ) × Prepares call status text × GrowsByPrefix call.written call.written_after text
+Answers call status = (text : List ℕ) × Prepares call status text × GrowsBy call.written call.written_after text
 
 -- How a put of this text ended: all of it was written and the status stays, or the sink failed and a
--- front of it was written.
+-- prefix of it was written.
 abbrev pub IsWritten : ℕ → ℕ → Option (List ℕ) → Option (List ℕ) → Status → List ℕ → Status → Type 0
 IsWritten faults faults_after written written_after status text ended =
-    ((ended ≡ status) × Grows written written_after text)
-    ⊎ ((ended ≡ WriteFault) × Rose faults faults_after × GrowsByFront written written_after text)
+    ((ended ≡ status) × GrowsBy written written_after text)
+    ⊎ ((ended ≡ WriteFault) × Rose faults faults_after × GrowsByPrefix written written_after text)
 
 -- a count that is told now was told before, and grew by no more than this
 abbrev pub GrewByAtMost : ℕ → Option ℕ → Option ℕ → Type 0
@@ -111,5 +111,5 @@ pub record IsAssured (call : Call) (sure : Option ℕ) : Type 0 where
 -- The defined answer was written with its status, or want of memory.
 abbrev pub IsComplete : Call → Status → Type 0
 IsComplete call status =
-    (text : List ℕ) × Grows call.written call.written_after text
+    (text : List ℕ) × GrowsBy call.written call.written_after text
     × (Out (command_of call.words) call.held status text ⊎ ((status ≡ NoMemory) × (text ≡ no_memory_line)))

@@ -16,7 +16,7 @@ pub record IsTooBigToPrint (bytes : List ℕ) (refusal : Refusal) : Type 0 where
   pub resolved : IsCoreOf bytes program core
   pub part : ℕ
   pub first : IsFirstTooBig core part
-  pub named : refusal ≡ TooBigPart (part_name core part)
+  pub refusal_is : refusal ≡ TooBigPart (part_name core part)
 
 -- It gives no program in scope, or it is too big to be printed.
 abbrev pub IsRefused : List ℕ → Refusal → Type 0

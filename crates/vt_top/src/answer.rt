@@ -152,7 +152,7 @@ fn type_answer(alloc: Global, source: &Source<'_>) -> Result<Answer, AllocError>
 // The answer that prints a type.
 fn printed(alloc: Global, normal: &VType, tables: &Tables) -> Result<Answer, AllocError>
     requires well_formed { IsWellFormedV normal.now }
-    requires named { DimsBelow (length tables.now.dims) normal.now }
+    requires dims { DimsBelow (length tables.now.dims) normal.now }
     ensures { IfOk result (λ a. IsPrinted tables.now.dims normal.now a.status (string_bytes a.text)) }
 {
     let mut text = show_type(alloc, normal, tables)?;

@@ -39,7 +39,7 @@ pub(crate) fn main_type(alloc: Global, source: &Source<'_>) -> Result<VType, Typ
     requires constants { source.now.constants ≡ core_constants }
     ensures typed { IfOk result (IsMainType source.now.resolved.core) }
     ensures well_formed { IfOk result IsWellFormedV }
-    ensures named { IfOk result (DimsBelow (length source.now.resolved.tables.dims)) }
+    ensures dims { IfOk result (DimsBelow (length source.now.resolved.tables.dims)) }
     ensures fault { IfErr result (IsTypeFault source.now.resolved.core) }
 {
     let core = &source.resolved.core;

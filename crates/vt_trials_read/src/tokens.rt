@@ -1,7 +1,7 @@
-use std::alloc::Global;
+use std::alloc::{AllocError, Global};
 use std::process::Abort;
 use std::test::Fail;
-use vt_lex::{Key, LexFault, Sign, Token, TokenKind, Word, lex, line_col};
+use vt_lex::{Key, LexFault, Sign, Span, Token, TokenKind, Word, dim_at, lex, line_col, word_at};
 
 const LONGEST: usize = 262144;
 
@@ -193,5 +193,68 @@ fn words_keep_their_text(rt: HostRuntime) -> Result<(), Fail> {
     let word = Word::new(String::from_str(alloc, "été")?);
     assert_eq!(rt; word.as_str(), "été");
     assert_eq!(rt; word.copied(alloc)?.as_str(), "été");
+    Ok(())
+}
+
+// The text of these bytes.
+fn word_of(
+    rt: &impl Abort,
+    alloc: Global,
+    text: &str,
+    start: u32,
+    end: u32,
+) -> Result<Word, AllocError> {
+    assert!(rt; start <= end && end as usize <= text.len());
+    assert!(rt; text.is_char_boundary(start as usize));
+    assert!(rt; text.is_char_boundary(end as usize));
+    word_at(alloc, text, Span { start, end })
+}
+
+#[test]
+fn words_are_the_texts_of_spans(rt: HostRuntime) -> Result<(), Fail> {
+    let alloc = rt.alloc();
+    for (text, start, end, word) in [
+        ("let x = 1", 4, 5, "x"),
+        ("let x = 1", 0, 9, "let x = 1"),
+        ("x", 0, 0, ""),
+        ("x", 1, 1, ""),
+        ("f été", 2, 7, "été"),
+        ("f été", 4, 5, "t"),
+        ("@A{1, 2}", 0, 2, "@A"),
+    ] {
+        let found = word_of(&rt, alloc, text, start, end)?;
+        assert!(rt; found.as_str() == word, "{text} {start}");
+    }
+    Ok(())
+}
+
+// The name of the dimension of these bytes.
+fn dim_of(
+    rt: &impl Abort,
+    alloc: Global,
+    text: &str,
+    start: u32,
+    end: u32,
+) -> Result<Word, AllocError> {
+    assert!(rt; start < end && end as usize <= text.len());
+    assert!(rt; text.is_char_boundary(start as usize));
+    assert!(rt; text.is_char_boundary(end as usize));
+    assert!(rt; text.as_bytes()[start as usize] == b'@');
+    dim_at(alloc, text, Span { start, end })
+}
+
+#[test]
+fn names_of_dimensions_stand_behind_their_at_signs(rt: HostRuntime) -> Result<(), Fail> {
+    let alloc = rt.alloc();
+    for (text, start, end, name) in [
+        ("@A{1, 2}", 0, 2, "A"),
+        ("x @été{1, 2}", 2, 8, "été"),
+        ("@if{1, 2}", 0, 3, "if"),
+        ("@A @B1", 3, 6, "B1"),
+        ("1 @", 2, 3, ""),
+    ] {
+        let found = dim_of(&rt, alloc, text, start, end)?;
+        assert!(rt; found.as_str() == name, "{text} {start}");
+    }
     Ok(())
 }

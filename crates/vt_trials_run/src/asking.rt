@@ -28,8 +28,8 @@ pub fn answers(
     status: Status,
     text: &[u8],
 ) -> Result<bool, AllocError> {
-    let (own, sink) = answer(alloc, words, file)?;
-    Ok(own == status && sink.bytes() == text)
+    let (got, sink) = answer(alloc, words, file)?;
+    Ok(got == status && sink.bytes() == text)
 }
 
 /// The type of the file is printed so.

@@ -28,6 +28,11 @@ fn the_forms_of_the_language_have_these_types(rt: HostRuntime) -> Result<(), Fai
         ("fun \u{e9}t\u{e9} -> \u{e9}t\u{e9}", "'a -> 'a\n"),
         ("@A{[1], [true]}", "[@A{Int, Bool}]\n"),
         ("@if{1, true}", "@if{Int, Bool}\n"),
+        ("@A{@B{1, true}, \"s\"}", "@A{@B{Int, Bool}, String}\n"),
+        (
+            "@B{@A{1, \"s\"}, @A{true, \"s\"}}",
+            "@B{@A{Int, String}, @A{Bool, String}}\n",
+        ),
     ] {
         assert!(rt; prints(alloc, file, text)?, "{file}");
     }

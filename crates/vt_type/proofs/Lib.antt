@@ -8,4 +8,4 @@ pub mod Substituting
 pub mod Roots
 pub mod Renaming
 pub mod ConstantTable
-pub mod PartsFit
+pub mod SubtermsFit

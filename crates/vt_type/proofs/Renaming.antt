@@ -11,7 +11,7 @@ use Rattle.vt_type.specs.declared.plain.PlainKids.{PlainKids, Nil}
 use Rattle.vt_type.specs.Plain.{kids_of, substituted, kids_substituted, IsInstance, IsRenaming}
 use Rattle.vt_type.specs.Canonical.{occurrences, kids_occurrences, canonical, first_of, first_path, IsCanonical}
 use Rattle.vt_type.specs.NormalForm.{kid_at}
-use Rattle.vt_type.specs.Parts.{part}
+use Rattle.vt_type.specs.Subterms.{subterm}
 use Rattle.vt_type.proofs.Firsts.{or_later, lookup-append}
 use Rattle.vt_type.proofs.Substituting.{substituted-well_formed}
 
@@ -135,40 +135,40 @@ which None other path e = inr e
 
 -- the way from the root to where a variable stands first
 mutual
-  pub found_part : (at : List ℕ) (type : Plain) (name path : List ℕ) → lookup (bytes_eq name) (occurrences at type) ≡ Some path → (way : List ℕ) × (path ≡ at ++ way) × (part type way ≡ Some (Var name))
-  found_part at (Var own) name path e =
+  pub found_subterm : (at : List ℕ) (type : Plain) (name path : List ℕ) → lookup (bytes_eq name) (occurrences at type) ≡ Some path → (way : List ℕ) × (path ≡ at ++ way) × (subterm type way ≡ Some (Var name))
+  found_subterm at (Var own) name path e =
       let found = cond_some (bytes_eq name own) at path e in
       ([], sym found.1 ∙ sym (append-nil at), ap (λ n. Some (Var n)) (sym ((bytes_eq-Decides name own).0 found.0)))
-  found_part at (Con top kids) name path e =
-      let found = found_kid_part at 0 kids name path e in
+  found_subterm at (Con top kids) name path e =
+      let found = found_kid_subterm at 0 kids name path e in
       (found.0 ∷ found.1, found.2 ∙ ap (λ n. at ++ n ∷ found.1) (zero-add found.0), found.3)
 
-  found_kid_part : (at : List ℕ) (n : ℕ) (kids : PlainKids) (name path : List ℕ) → lookup (bytes_eq name) (kids_occurrences at n kids) ≡ Some path
-      → (k : ℕ) × (way : List ℕ) × (path ≡ at ++ (n + k) ∷ way) × (option_and_then (λ kid. part kid way) (kid_at kids k) ≡ Some (Var name))
-  found_kid_part at n Nil name path e = absurd (none-some path e)
-  found_kid_part at n (kids_of kid kids) name path e =
+  found_kid_subterm : (at : List ℕ) (n : ℕ) (kids : PlainKids) (name path : List ℕ) → lookup (bytes_eq name) (kids_occurrences at n kids) ≡ Some path
+      → (k : ℕ) × (way : List ℕ) × (path ≡ at ++ (n + k) ∷ way) × (option_and_then (λ kid. subterm kid way) (kid_at kids k) ≡ Some (Var name))
+  found_kid_subterm at n Nil name path e = absurd (none-some path e)
+  found_kid_subterm at n (kids_of kid kids) name path e =
       let here = occurrences (at ++ n ∷ []) kid in
       let there = kids_occurrences at (n + 1) kids in
       elim (which (lookup (bytes_eq name) here) (lookup (bytes_eq name) there) path (sym (lookup-append (bytes_eq name) here there) ∙ e)) [
         | inl h ↦
-            (let found = found_part (at ++ n ∷ []) kid name path h in
+            (let found = found_subterm (at ++ n ∷ []) kid name path h in
             (0, found.0, found.1 ∙ append_assoc at (n ∷ []) found.0 ∙ ap (λ m. at ++ m ∷ found.0) (sym (add-zero n)), found.2))
         | inr h ↦
-            (let found = found_kid_part at (n + 1) kids name path h in
+            (let found = found_kid_subterm at (n + 1) kids name path h in
             let order : (n + 1) + found.0 ≡ n + suc found.0 = omega arith in
             (suc found.0, found.1, found.2 ∙ ap (λ m. at ++ m ∷ found.1) order, found.3))
       ]
 
 -- the first path of a variable leads to it
-pub part-first_path : (type : Plain) (name : List ℕ) → Stands (occurrences [] type) name → part type (first_path type name) ≡ Some (Var name)
-part-first_path type name h = by (lookup (bytes_eq name) (occurrences [] type)) refl h
+pub subterm-first_path : (type : Plain) (name : List ℕ) → Stands (occurrences [] type) name → subterm type (first_path type name) ≡ Some (Var name)
+subterm-first_path type name h = by (lookup (bytes_eq name) (occurrences [] type)) refl h
   where
-    by : (o : Option (List ℕ)) → lookup (bytes_eq name) (occurrences [] type) ≡ o → IsSome o → part type (unwrap_or o name) ≡ Some (Var name)
-    by (Some path) e h = let found = found_part [] type name path e in ap (part type) found.1 ∙ found.2
+    by : (o : Option (List ℕ)) → lookup (bytes_eq name) (occurrences [] type) ≡ o → IsSome o → subterm type (unwrap_or o name) ≡ Some (Var name)
+    by (Some path) e h = let found = found_subterm [] type name path e in ap (subterm type) found.1 ∙ found.2
     by None e h = absurd (true≢false (sym h))
 
 first_path-one : (type : Plain) (name other : List ℕ) → Stands (occurrences [] type) name → Stands (occurrences [] type) other → first_path type name ≡ first_path type other → name ≡ other
-first_path-one type name other h k e = ap (λ o. name_of (unwrap_or o type)) (sym (part-first_path type name h) ∙ ap (part type) e ∙ part-first_path type other k)
+first_path-one type name other h k e = ap (λ o. name_of (unwrap_or o type)) (sym (subterm-first_path type name h) ∙ ap (subterm type) e ∙ subterm-first_path type other k)
 
 same_test : (a b c d : List ℕ) → (a ≡ b → c ≡ d) → (c ≡ d → a ≡ b) → bytes_eq a b ≡ bytes_eq c d
 same_test a b c d f g =
@@ -222,10 +222,10 @@ variable_at None path = path
 -- a type is an instance of its canonical form, and the other way round
 from_canonical : (type : Plain) → IsInstance type (canonical type)
 from_canonical type = record {
-  images = λ path. Var (variable_at (part type path) path);
+  images = λ path. Var (variable_at (subterm type path) path);
   well_formed = λ name. tt;
-  same = substituted-substituted (λ path. Var (variable_at (part type path) path)) (first_of (occurrences [] type)) type
-      ∙ substituted-agree (λ name. Var (variable_at (part type (first_path type name)) (first_path type name))) Var [] type (λ name h. ap (λ o. Var (variable_at o (first_path type name))) (part-first_path type name h))
+  same = substituted-substituted (λ path. Var (variable_at (subterm type path) path)) (first_of (occurrences [] type)) type
+      ∙ substituted-agree (λ name. Var (variable_at (subterm type (first_path type name)) (first_path type name))) Var [] type (λ name h. ap (λ o. Var (variable_at o (first_path type name))) (subterm-first_path type name h))
       ∙ substituted-Var type;
 }
 

@@ -4,7 +4,7 @@ pub mod Variational
 pub mod NormalForm
 pub mod Text
 pub mod Names
-pub mod Parts
+pub mod Subterms
 pub mod Laws
 pub mod Constants
 pub mod Entries

@@ -67,8 +67,13 @@ fn renamed_kids(
             way.push(number)?;
             let first = renamed(first.get(), alloc, way, paths)?;
             way.pop();
-            let others = renamed_kids(others.get(), alloc, number + 1, way, paths)?;
-            PlainKids::more(alloc, first, others)
+            match renamed_kids(others.get(), alloc, number + 1, way, paths) {
+                Ok(others) => PlainKids::more(alloc, first, others),
+                Err(error) => {
+                    drop(first);
+                    Err(error)
+                }
+            }
         }
     }
 }

@@ -9,6 +9,7 @@ ghost use Rattle.vt_type.specs.Entries.{constant_of};
 
 use crate::core_constants::{CORE_COUNT, core_name, core_type};
 use crate::{Plain, canon};
+use sqlite_items::Boxed;
 use std::alloc::{AllocError, Global};
 use std::marker::Model;
 
@@ -59,7 +60,7 @@ impl ConstId {
 #[derive(Drop)]
 struct Entry {
     name: Option<String>,
-    closed: Plain,
+    closed: Boxed<Plain>,
 }
 
 impl Entry {
@@ -67,7 +68,7 @@ impl Entry {
         ensures { IsTrue result ↔ (option_map string_bytes self.now.name ≡ Some name.now) }
     {
         match &self.name {
-            Some(own) => own.as_str() == name,
+            Some(known) => known.as_str() == name,
             None => false,
         }
     }
@@ -120,12 +121,19 @@ impl Constants {
         None
     }
 
-    /// How many constants there are. What it ensures of the table is what callers may rest on.
+    /// How many constants there are.
     pub fn len(&self) -> usize
         ensures count { result ≡ length self.now }
         ensures table { IsTable self.now }
     {
         self.entries.len()
+    }
+
+    /// Does nothing. A proof calls it that rests on what holds of each table of constants.
+    pub fn coherent(&self)
+        ensures table { IsTable self.now }
+    {
+        let _ = &self.entries;
     }
 
     pub fn closed(&self, id: ConstId) -> &Plain
@@ -134,7 +142,7 @@ impl Constants {
         ensures well_formed { IsWellFormed result.now }
         ensures canonical { IsCanonical result.now }
     {
-        &self.entries[id.0 as usize].closed
+        self.entries[id.0 as usize].closed.get()
     }
 }
 
@@ -142,8 +150,9 @@ fn core_entry(alloc: Global, number: u32) -> Result<Entry, AllocError>
     requires { number < CORE_COUNT }
     ensures { IfOk result (λ entry. slice_get core_constants number ≡ Some (constant_of entry)) }
 {
+    let core = core_type(alloc, number)?;
+    let closed = Boxed::new(alloc, canon(alloc, core.get())?)?;
     let name = owned(alloc, core_name(number))?;
-    let closed = canon(alloc, &core_type(alloc, number)?)?;
     Ok(Entry { name, closed })
 }
 

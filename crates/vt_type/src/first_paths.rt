@@ -40,9 +40,14 @@ impl FirstPaths {
         if let Some(path) = self.paths.get(name) {
             return path.copied(alloc);
         }
-        let path = Path::new(Vec::from_slice(alloc, here)?);
-        self.paths
-            .insert(Vec::from_slice(alloc, name)?, path.copied(alloc)?)?;
-        Ok(path)
+        let first = Path::new(Vec::from_slice(alloc, here)?);
+        match Vec::from_slice(alloc, name) {
+            Ok(name) => drop(self.paths.insert(name, first)?),
+            Err(error) => {
+                drop(first);
+                return Err(error);
+            }
+        }
+        Ok(Path::new(Vec::from_slice(alloc, here)?))
     }
 }

@@ -20,7 +20,7 @@ impl Head {
     pub fn bounded(self)
         ensures { arity self < 256 }
     {
-        let _arity = self.arity();
+        let _ = self.arity();
     }
 
     /// How many children the head has.

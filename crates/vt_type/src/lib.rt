@@ -21,11 +21,11 @@ mod instance;
 pub mod laws;
 mod names;
 mod nodes;
-mod parts;
 mod path;
 mod plain;
 mod same;
 mod select;
+mod subterms;
 mod vtype;
 
 pub use canonical::canon;

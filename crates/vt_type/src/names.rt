@@ -46,7 +46,7 @@ impl Names {
         ensures distinct { AreDistinct self.now }
         ensures fits { length self.now ≤ 2 ^ 32 }
     {
-        let _texts = &self.texts;
+        let _ = &self.texts;
     }
 
     pub fn is_empty(&self) -> bool

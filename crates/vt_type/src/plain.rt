@@ -28,16 +28,21 @@ impl PlainKids {
     pub fn more(alloc: Global, kid: Plain, kids: PlainKids) -> Result<PlainKids, AllocError>
         ensures { IfOk result (λ all. all ≡ kids_of kid kids) }
     {
-        let kid = Boxed::new(alloc, kid)?;
-        let kids = Boxed::new(alloc, kids)?;
-        Ok(PlainKids::More(kid, kids))
+        let kid = Boxed::new(alloc, kid);
+        let kids = Boxed::new(alloc, kids);
+        Ok(PlainKids::More(kid?, kids?))
     }
 
     fn two(alloc: Global, left: Plain, right: Plain) -> Result<PlainKids, AllocError>
         ensures { IfOk result (λ all. all ≡ kids_of left (kids_of right Nil)) }
     {
-        let others = PlainKids::more(alloc, right, PlainKids::Nil)?;
-        PlainKids::more(alloc, left, others)
+        match PlainKids::more(alloc, right, PlainKids::Nil) {
+            Ok(others) => PlainKids::more(alloc, left, others),
+            Err(error) => {
+                drop(left);
+                Err(error)
+            }
+        }
     }
 }
 

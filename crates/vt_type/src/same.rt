@@ -19,12 +19,12 @@ impl Plain {
     {
         match self {
             Plain::Var(name) => match other {
-                Plain::Var(own) => name.as_slice() == own.as_slice(),
+                Plain::Var(path) => name.as_slice() == path.as_slice(),
                 Plain::Con(_, _) => false,
             },
             Plain::Con(head, kids) => match other {
                 Plain::Var(_) => false,
-                Plain::Con(own, others) => head.is_same(*own) && are_same(kids, others),
+                Plain::Con(top, others) => head.is_same(*top) && are_same(kids, others),
             },
         }
     }
@@ -41,7 +41,7 @@ fn are_same(kids: &PlainKids, others: &PlainKids) -> bool
         },
         PlainKids::More(first, rest) => match others {
             PlainKids::Nil => false,
-            PlainKids::More(own, more) => first.get().is_same(own.get())
+            PlainKids::More(other, more) => first.get().is_same(other.get())
                 && are_same(rest.get(), more.get()),
         },
     }

@@ -3,6 +3,7 @@ ghost use Rattle.std.specs.Prelude.{◌≡◌, IfOk};
 ghost use Rattle.vt_type.specs.Variational.{selected, kids_selected, answer, root_at, IsWellFormedV, AreWellFormedV, IsWellFormedSelected};
 
 use crate::{Plain, PlainKids, Selected, VKids, VType};
+use sqlite_items::Boxed;
 use std::alloc::{AllocError, Global};
 use vt_dec::{Decision, Side};
 
@@ -77,10 +78,13 @@ fn kids_at(
         VKids::Nil => Ok(Some(PlainKids::Nil)),
         VKids::More(first, others) => match plain_at(first.get(), alloc, decision)? {
             None => Ok(None),
-            Some(first) => match kids_at(others.get(), alloc, decision)? {
-                None => Ok(None),
-                Some(others) => Ok(Some(PlainKids::more(alloc, first, others)?)),
-            },
+            Some(first) => {
+                let first = Boxed::new(alloc, first)?;
+                match kids_at(others.get(), alloc, decision)? {
+                    None => Ok(None),
+                    Some(others) => Ok(Some(PlainKids::More(first, Boxed::new(alloc, others)?))),
+                }
+            }
         },
     }
 }

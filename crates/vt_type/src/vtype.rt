@@ -37,9 +37,9 @@ impl VType {
     pub fn choice(alloc: Global, dim: Dim, left: VType, right: VType) -> Result<VType, AllocError>
         ensures { IfOk result (λ vtype. vtype ≡ choice dim left right) }
     {
-        let left = Boxed::new(alloc, left)?;
-        let right = Boxed::new(alloc, right)?;
-        Ok(VType::Choice(dim, left, right))
+        let left = Boxed::new(alloc, left);
+        let right = Boxed::new(alloc, right);
+        Ok(VType::Choice(dim, left?, right?))
     }
 }
 
@@ -48,8 +48,8 @@ impl VKids {
     pub fn more(alloc: Global, kid: VType, kids: VKids) -> Result<VKids, AllocError>
         ensures { IfOk result (λ all. all ≡ vkids_of kid kids) }
     {
-        let kid = Boxed::new(alloc, kid)?;
-        let kids = Boxed::new(alloc, kids)?;
-        Ok(VKids::More(kid, kids))
+        let kid = Boxed::new(alloc, kid);
+        let kids = Boxed::new(alloc, kids);
+        Ok(VKids::More(kid?, kids?))
     }
 }

@@ -13,7 +13,7 @@ parts-requires g c = (
   (
     context_fits g.row.N c.requires.width,
     (
-      c.len-constants.ensures.table,
+      c.coherent.ensures.table,
       (
         whole_covers g.row.N c.args.space c.whole-within.result c.whole-within.ensures.all,
         reached_begin g.row.N c.args.constants.now c.args.core.now c.args.space c.whole-within.result c.whole-within.ensures.all c.started-work.result c.new-marks.result c.started-work.ensures c.requires.closed c.requires.numbered

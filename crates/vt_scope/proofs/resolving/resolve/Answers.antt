@@ -1,10 +1,12 @@
 use Rattle.std.proofs.Common.{[], refl, sym, subst, ◌∙◌}
 use Rattle.vt_syntax.specs.declared.core_program.CoreProgram.{CoreProgram}
 use Rattle.vt_scope.specs.declared.walk.Walk.{Walk}
+use Rattle.vt_syntax.specs.Leaves.{AreLeaves}
 use Rattle.vt_scope.specs.Faults.{dims_of}
 use Rattle.vt_scope.specs.Cores.{IsCoreProgram}
 use Rattle.vt_scope.specs.Definitions.{scope_after}
 use Rattle.vt_scope.proofs.Closing.{closed-program}
+use Rattle.vt_scope.proofs.Leaves.{program-leaves}
 use Rattle.vt_scope.proofs.Numbering.{numbered_program, distinct_program}
 use Rattle.vt_scope.proofs.Programs.{program_given, program_core, program_free, defs_refused, main_refused, program_dims, program_few, fault_exit}
 use Rattle.vt_scope.proofs.resolving.resolve.Goals as goal
@@ -31,6 +33,9 @@ returns c =
       fault = program_free constants program start c.new.ensures refl c.new-2.ensures c.new-3.ensures end _ whole;
       few = program_few constants program start c.new.ensures refl c.new-2.ensures c.new-3.ensures end _ whole;
       closed = λ implied. closed-program constants end.dims program core end.leaves is_core implied;
+      leaves = λ unnamed.
+          subst (λ leaves. AreLeaves core leaves) (sym (c.new-5.ensures ∙ c.in_ok-leaves.ensures.items ∙ c.as_slice-2.ensures))
+          (program-leaves constants end.dims unnamed program core end.leaves is_core);
       numbered = numbered_program constants end.dims program core end.leaves is_core;
       distinct = distinct_program constants end.dims program core end.leaves is_core;
     })

@@ -6,14 +6,14 @@ use Rattle.vt_show.proofs.show.show_pair.Goals as goal
 pub show_both-text-requires-clause-wanted : goal.show_both-text-requires-clause-wanted
 show_both-text-requires-clause-wanted c = rw c.in_ok-wanted.ensures (of_plain-well_formed _ c.requires.wanted)
 
-pub show_both-text-requires-clause-wanted_named : goal.show_both-text-requires-clause-wanted_named
-show_both-text-requires-clause-wanted_named c = rw c.in_ok-wanted.ensures (of_plain-dims _ c.args.pair.now.wanted)
+pub show_both-text-requires-clause-wanted_dims : goal.show_both-text-requires-clause-wanted_dims
+show_both-text-requires-clause-wanted_dims c = rw c.in_ok-wanted.ensures (of_plain-dims _ c.args.pair.now.wanted)
 
 pub show_both-text-requires-clause-outcome : goal.show_both-text-requires-clause-outcome
 show_both-text-requires-clause-outcome c = rw c.in-Ok.ensures (of_plain-well_formed _ c.requires.outcome)
 
-pub show_both-text-requires-clause-outcome_named : goal.show_both-text-requires-clause-outcome_named
-show_both-text-requires-clause-outcome_named c = rw c.in-Ok.ensures (of_plain-dims _ c.args.pair.now.result)
+pub show_both-text-requires-clause-outcome_dims : goal.show_both-text-requires-clause-outcome_dims
+show_both-text-requires-clause-outcome_dims c = rw c.in-Ok.ensures (of_plain-dims _ c.args.pair.now.result)
 
 pub returns-in-Ok : goal.returns-in-Ok
 returns-in-Ok c =

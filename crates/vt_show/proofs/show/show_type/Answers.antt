@@ -1,7 +1,7 @@
 use Rattle.std.proofs.Common.{refl, []}
 use Rattle.vt_show.proofs.show.show_type.Goals as goal
 
-pub returns : goal.returns
-returns c =
+pub returns-in-Ok : goal.returns-in-Ok
+returns-in-Ok c =
     let letters = c.in_ok-meet_all.ensures [] c.new-letters.ensures in
-    rw (c.in_ok-write_type.ensures, c.new-text.ensures.bytes, letters) refl
+    rw (c.in-Ok.ensures, c.new-text.ensures.bytes, letters) refl

@@ -11,14 +11,14 @@ pub write_arrow-write_type-requires : goal.write_arrow-write_type-requires
 write_arrow-write_type-requires t c =
     let size = ap vkids_nodes c.both.ensures in
     let well = rw c.both.ensures at c.requires.well_formed in
-    let dims = rw c.both.ensures at c.requires.named in
+    let dims = rw c.both.ensures at c.requires.dims in
     (omega (arith, size, nodes-positive c.both.result.1.now), (well.0, dims.0))
 
 pub write_arrow-write_type-requires-2 : goal.write_arrow-write_type-requires-2
 write_arrow-write_type-requires-2 t c =
     let size = ap vkids_nodes c.both.ensures in
     let well = rw c.both.ensures at c.requires.well_formed in
-    let dims = rw c.both.ensures at c.requires.named in
+    let dims = rw c.both.ensures at c.requires.dims in
     (omega (arith, size), (well.1.0, dims.1.0))
 
 pub write_con-returns-in-Int : goal.write_con-returns-in-Int
@@ -41,40 +41,40 @@ pub write_list-write_type-requires : goal.write_list-write_type-requires
 write_list-write_type-requires t c =
     let size = ap vkids_nodes c.only.ensures in
     let well = rw c.only.ensures at c.requires.well_formed in
-    let dims = rw c.only.ensures at c.requires.named in
+    let dims = rw c.only.ensures at c.requires.dims in
     (omega (arith, size), (well.0, dims.0))
 
 pub write_pair-write_type-requires : goal.write_pair-write_type-requires
 write_pair-write_type-requires t c =
     let size = ap vkids_nodes c.both.ensures in
     let well = rw c.both.ensures at c.requires.well_formed in
-    let dims = rw c.both.ensures at c.requires.named in
+    let dims = rw c.both.ensures at c.requires.dims in
     (omega (arith, size), (well.0, dims.0))
 
 pub write_pair-write_type-requires-2 : goal.write_pair-write_type-requires-2
 write_pair-write_type-requires-2 t c =
     let size = ap vkids_nodes c.both.ensures in
     let well = rw c.both.ensures at c.requires.well_formed in
-    let dims = rw c.both.ensures at c.requires.named in
+    let dims = rw c.both.ensures at c.requires.dims in
     (omega (arith, size), (well.1.0, dims.1.0))
 
 pub write_type-unwrap-requires : goal.write_type-unwrap-requires
 write_type-unwrap-requires t c =
-    let dims = choice_dims _ _ _ _ _ c.in-Choice.is c.requires.named in
+    let dims = choice_dims _ _ _ _ _ c.in-Choice.is c.requires.dims in
     named _ _ _ _ (rw c.dim.view_is at c.name.ensures) dims.0
 
 pub write_type-write_type-requires : goal.write_type-write_type-requires
 write_type-write_type-requires t c =
     let size = nodes-choice _ _ _ _ c.in-Choice.is in
     let well = choice_parts _ _ _ _ c.in-Choice.is c.requires.well_formed in
-    let dims = choice_dims _ _ _ _ _ c.in-Choice.is c.requires.named in
+    let dims = choice_dims _ _ _ _ _ c.in-Choice.is c.requires.dims in
     rw c.get.ensures (omega (arith, size), (well.1, dims.1))
 
 pub write_type-write_type-requires-in-Choice : goal.write_type-write_type-requires-in-Choice
 write_type-write_type-requires-in-Choice t c =
     let size = nodes-choice _ _ _ _ c.in-Choice.is in
     let well = choice_parts _ _ _ _ c.in-Choice.is c.requires.well_formed in
-    let dims = choice_dims _ _ _ _ _ c.in-Choice.is c.requires.named in
+    let dims = choice_dims _ _ _ _ _ c.in-Choice.is c.requires.dims in
     rw c.get-in-Choice.ensures (omega (arith, size), (well.2, dims.2))
 
 pub write_type-returns-in_ok-write_type-in-Choice-2 :

@@ -31,17 +31,17 @@ renamed_kids-renamed_kids-requires t c =
     let count = rw (c.in-More.is ∙ more_here _ _) at c.requires.numbers in
     (search (rules, the_lemmas), rw c.get-in-More.ensures (parts.1, omega (arith, count)))
 
-pub renamed_kids-returns-in_ok-others-in-More-clause-met : goal.renamed_kids-returns-in_ok-others-in-More-clause-met
-renamed_kids-returns-in_ok-others-in-More-clause-met t c =
+pub renamed_kids-returns-in-Ok-clause-met : goal.renamed_kids-returns-in-Ok-clause-met
+renamed_kids-returns-in-Ok-clause-met t c =
     let back : c.pop.new.self.items ≡ c.args.way.now.items = grind (arith, common_steps) in
     let first = rw (c.in_ok-push-in-More.ensures.items, c.get.ensures) at c.in_ok-first-in-More.ensures.met in
-    let then = rw (back, c.get-in-More.ensures) at c.in_ok-others-in-More.ensures.met in
+    let then = rw (back, c.get-in-More.ensures) at c.in-Ok.ensures.met in
     rw (c.in-More.is ∙ more_here _ _) (IfOk-weaker c.more.result _ _ (λ _ _. FindsAs-more _ _ _ _ first _ then) c.more.ensures)
 
-pub renamed_kids-returns-in_ok-others-in-More-clause-renamed : goal.renamed_kids-returns-in_ok-others-in-More-clause-renamed
-renamed_kids-returns-in_ok-others-in-More-clause-renamed t c =
+pub renamed_kids-returns-in-Ok-clause-renamed : goal.renamed_kids-returns-in-Ok-clause-renamed
+renamed_kids-returns-in-Ok-clause-renamed t c =
     let back : c.pop.new.self.items ≡ c.args.way.now.items = grind (arith, common_steps) in
     let met = rw (c.in_ok-push-in-More.ensures.items, c.get.ensures) at c.in_ok-first-in-More.ensures.met in
     let first = rw (c.in_ok-push-in-More.ensures.items, c.get.ensures) at c.in_ok-first-in-More.ensures.renamed in
-    let others = rw (back, c.get-in-More.ensures) at c.in_ok-others-in-More.ensures.renamed in
-    rw (c.in-More.is ∙ more_here _ _) (IfOk-weaker c.more.result _ _ (λ all is later. is ∙ renamed-more _ _ _ _ met c.in-More.first c.in_ok-first-in-More.first c.in-More.others c.in_ok-others-in-More.others first others later) c.more.ensures)
+    let others = rw (back, c.get-in-More.ensures) at c.in-Ok.ensures.renamed in
+    rw (c.in-More.is ∙ more_here _ _) (IfOk-weaker c.more.result _ _ (λ all is later. is ∙ renamed-more _ _ _ _ met c.in-More.first c.in_ok-first-in-More.first c.in-More.others c.in-Ok.others first others later) c.more.ensures)

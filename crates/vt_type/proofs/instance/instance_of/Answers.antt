@@ -1,4 +1,4 @@
-use Rattle.vt_type.proofs.PartsFit.{IsInstance-fits}
+use Rattle.vt_type.proofs.SubtermsFit.{IsInstance-fits}
 use Rattle.vt_type.proofs.instance.instance_of.Goals as goal
 
 pub returns : goal.returns

@@ -1,6 +1,7 @@
-use Rattle.std.proofs.Common.{rules, refl, lit<}
+use Rattle.std.proofs.Common.{rules, refl, lit<, Some, ap, ◌∙◌}
 use Rattle.vt_dec.specs.declared.side.Side.TheVariants.{Left, Right}
 use Rattle.vt_type.specs.declared.vtype.VType.{the_lemmas}
+use Rattle.vt_type.proofs.Makers.{more_is}
 use Rattle.vt_type.proofs.Selecting.{choice_parts, more_parts, selected-choice, kids_selected-more}
 use Rattle.vt_type.proofs.select.+select.Goals as goal
 
@@ -22,9 +23,10 @@ pub kids_at-returns-in-None-2 : goal.kids_at-returns-in-None-2
 kids_at-returns-in-None-2 t c =
     rw (kids_selected-more _ _ _ _ c.in-More.is, ← c.get.ensures, ← c.in_ok-plain_at-in-More.ensures, c.in-Some.is, ← c.get-in-Some.ensures, ← c.in_ok-kids_at-in-Some.ensures, c.in-None-2.is) refl
 
-pub kids_at-returns-in_ok-more-in-Some-2 : goal.kids_at-returns-in_ok-more-in-Some-2
-kids_at-returns-in_ok-more-in-Some-2 t c =
-    rw (kids_selected-more _ _ _ _ c.in-More.is, ← c.get.ensures, ← c.in_ok-plain_at-in-More.ensures, c.in-Some.is, ← c.get-in-Some.ensures, ← c.in_ok-kids_at-in-Some.ensures, c.in-Some-2.is, c.in_ok-more-in-Some-2.ensures) refl
+pub kids_at-returns-in_ok-new-in-Some-2 : goal.kids_at-returns-in_ok-new-in-Some-2
+kids_at-returns-in_ok-new-in-Some-2 t c =
+    rw (kids_selected-more _ _ _ _ c.in-More.is, ← c.get.ensures, ← c.in_ok-plain_at-in-More.ensures, c.in-Some.is, ← c.get-in-Some.ensures, ← c.in_ok-kids_at-in-Some.ensures, c.in-Some-2.is)
+    (ap Some (more_is _ _ _ _ (c.first.view_is ∙ c.in_ok-first-in-Some.ensures) c.in_ok-new-in-Some-2.ensures))
 
 pub plain_at-side-requires : goal.plain_at-side-requires
 plain_at-side-requires t c = (lit< tt, (choice_parts _ _ _ _ c.in-Choice.is c.requires).0)

@@ -1,17 +1,17 @@
 use Rattle.std.proofs.Common.{◌≡◌, ◌+◌, ◌*◌, ◌<◌, ◌^◌, Some, true, bit_and, length, get_or, ◌-◌, arith}
 use Rattle.std.proofs.lemmas.Option.{slice_get_within}
 use Rattle.std.specs.Int.{trailing_zeros, w64}
-use Rattle.vt_dec.specs.Words.{members, IsNext}
+use Rattle.vt_dec.specs.Words.{members, IsNextMember}
 use Rattle.vt_dec.proofs.WordBits.{length-members}
 use Rattle.vt_dec.proofs.NextBit.{none_in_word, first_in_word}
 use Rattle.vt_dec.proofs.dim_set.DimSet.next.Goals as goal
 use Rattle.vt_dec.proofs.dim_set.DimSet.next.Goals.{Then-word-ne0}
 
-found : (g : _) (c : Then-word-ne0 g) → IsNext (members c.self.inside.words) c.args.from (Some (64 * c.loop-index.index + trailing_zeros w64 (bit_and (get_or c.self.inside.words c.loop-index.index 0) c.loop-index.mask)))
+found : (g : _) (c : Then-word-ne0 g) → IsNextMember (members c.self.inside.words) c.args.from (Some (64 * c.loop-index.index + trailing_zeros w64 (bit_and (get_or c.self.inside.words c.loop-index.index 0) c.loop-index.mask)))
 found g c =
     let kept = c.loop-index.invariant in
     first_in_word c.self.inside.words c.args.from c.loop-index.index c.loop-index.mask kept.hides g.row.N c.self.invariant c.loop-index-test.true
-    (omega (arith, c.word_of-index.ensures.word)) kept.none c.if-word-ne0.true
+    (omega (arith, c.index_of-index.ensures.index)) kept.none c.if-word-ne0.true
 
 low : (g : _) (c : Then-word-ne0 g) → 64 * c.loop-index.index + trailing_zeros w64 (bit_and (get_or c.self.inside.words c.loop-index.index 0) c.loop-index.mask) < 2 ^ 32
 low g c = c.requires.low _ (rw (← c.self.view_is) ((found g c).1))
@@ -31,7 +31,7 @@ returns-then-word-ne0 g c = rw (← c.self.view_is) (found g c)
 pub loop-index-preserved : goal.loop-index-preserved
 loop-index-preserved g c =
     let kept = c.loop-index.invariant in
-    let past : c.args.from - 64 * (c.loop-index.index + 1) ≡ 0 = omega (arith, c.word_of-index.ensures.word) in
+    let past : c.args.from - 64 * (c.loop-index.index + 1) ≡ 0 = omega (arith, c.index_of-index.ensures.index) in
     record {
       hides = rw past;
       none = none_in_word c.self.inside.words c.args.from c.loop-index.index c.loop-index.mask kept.hides kept.none c.if-word-ne0.false;

@@ -3,7 +3,7 @@ use Rattle.std.proofs.lemmas.Grind.{common_steps}
 use Rattle.std.proofs.lemmas.List.{take-append-drop}
 use Rattle.vt_io.proofs.mem_sink.MemSinkSink.put.Goals as goal
 
--- the front is what the put may take
+-- the prefix is what the put may take
 pub returns-clause-cut_off : goal.returns-clause-cut_off
 returns-clause-cut_off c =
     let count = c.min-count.result in

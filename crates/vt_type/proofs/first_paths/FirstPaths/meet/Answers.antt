@@ -18,10 +18,10 @@ returns-in-Some-clause-met c =
 pub returns-clause-first : goal.returns-clause-first
 returns-clause-first c later =
     let none : lookup (bytes_eq c.args.name.now) c.args.self.now ≡ None = rw (← c.self.view_is) (lookup-entry_of c.args.name.now c.self.inside.paths.entries ∙ sym c.in_default.ensures.value) in
-    ap Some (c.new-path.ensures ∙ c.in_ok-from_slice.ensures.items) ∙ sym (lookup-last c.args.name.now c.args.here.now c.args.self.now later none)
+    ap Some (c.new.ensures ∙ c.in_ok-from_slice-2.ensures.items) ∙ sym (lookup-last c.args.name.now c.args.here.now c.args.self.now later none)
 
 pub returns-clause-met : goal.returns-clause-met
 returns-clause-met c name =
     rw (← c.self.view_is)
-    (ap (lookup (bytes_eq name)) (entries-new c.self.inside.paths c.insert.new.self.entries c.in_ok-from_slice-2.field-0 c.in_ok-copied.field-0 c.args.name.now c.args.here.now
-    c.in_ok-from_slice-2.ensures.items (c.in_ok-copied.ensures ∙ c.new-path.ensures ∙ c.in_ok-from_slice.ensures.items) (sym c.in_default.ensures.value) c.in_ok-insert.ensures.entries))
+    (ap (lookup (bytes_eq name)) (entries-new c.self.inside.paths c.insert.new.self.entries c.in-Ok.name c.new-first.result c.args.name.now c.args.here.now
+    c.in-Ok.ensures.items (c.new-first.ensures ∙ c.in_ok-from_slice.ensures.items) (sym c.in_default.ensures.value) c.in_ok-insert-in-Ok.ensures.entries))

@@ -1,0 +1,13 @@
+//! The changes that cure a program.
+//!
+//! So far it has two of the steps that lead to them: [`vary_leaves`] makes each leaf of a program a choice
+//! between itself and a hole, and [`rank`] puts changes in the order in which they are listed. What a varied
+//! program is says `vt_syntax`; the order is in `specs/Ranking.antt`.
+#![tactic(auto)]
+
+mod leaf_numbers;
+mod ranking;
+mod varying;
+
+pub use ranking::rank;
+pub use varying::vary_leaves;
