@@ -72,8 +72,7 @@ module _ (K : List Constant) (mark : ℕ) (places : List Place) where
           let (t, b, agree, own) = fresh.taken s from a w in
           let (r, c, later, inner_is, leaf_is) = inside.taken t to wanted b (rw (env_at-agrees n0 s t places have agree, own) f) in
           let parameter_is : r parameter ≡ from = later parameter fresh.is_cell ∙ own in
-          let (q, x, last, result_is) = arrow.taken r type c (type_is ∙ rw (parameter_is, inner_is) refl) in
-          (
+          let (q, x, last, result_is) = arrow.taken r type c (type_is ∙ rw (parameter_is, inner_is) refl) in (
             q,
             x,
             agree-then n0 n2 s r q (omega (arith, fresh.grows, plain.grows)) (agree-then n0 n1 s t r fresh.grows agree later) last,
@@ -99,8 +98,7 @@ module _ (K : List Constant) (mark : ℕ) (places : List Place) where
             let (t, b, agree, arrow_is, leaf_is) = inside.taken s (from ⇒ type) wanted a f in
             let (r, c, later, from_is) = right.taken t from b (rw (env_at-agrees n0 s t places have agree) g) in
             let (q, x, last, own) = join.taken r type c (later one left.is_cell ∙ arrow_is ∙ rw from_is refl) in
-            let before = agree-then n0 n1 s t r left.grows agree later in
-            (
+            let before = agree-then n0 n1 s t r left.grows agree later in (
               q,
               x,
               agree-then n0 n2 s r q (omega (arith, left.grows, right.grows)) before last,

@@ -26,7 +26,12 @@ pub fn refusal_line(alloc: Global, refusal: &Refusal) -> Result<String, AllocErr
         Refusal::NotPlain { name } => around(alloc, "dimension ", name.as_str(), " is undecided\n"),
         Refusal::TooManyLeaves => fixed(alloc, "more than 2048 leaves"),
         Refusal::TooBigPart { name } => {
-            around(alloc, "type of ", name.as_str(), " has more than 4096 nodes\n")
+            around(
+                alloc,
+                "type of ",
+                name.as_str(),
+                " has more than 4096 nodes\n",
+            )
         }
         Refusal::TooBigChange { at } => too_big_change(alloc, *at),
     }
