@@ -1,0 +1,9 @@
+pub mod Slices
+pub mod Maps
+pub mod Keys
+pub mod Sides
+pub mod Growth
+pub mod Shapes
+pub mod Entering
+pub mod Canonical
+pub mod RightCounts
