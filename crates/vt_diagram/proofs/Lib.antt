@@ -7,3 +7,5 @@ pub mod Shapes
 pub mod Entering
 pub mod Canonical
 pub mod RightCounts
+pub mod Remembering
+pub mod Answering

@@ -57,6 +57,15 @@ impl<const N: usize> Entries<N> {
         self.entries.len() + 1
     }
 
+    /// The diagram that is 0 at every decision.
+    pub(crate) fn zero(&self) -> DiagramId
+        ensures number { result ≡ 0 }
+        ensures is { Holds self.now result × (tree_at self.now result ≡ Tip 0) }
+    {
+        let _entries = &self.entries;
+        DiagramId(0)
+    }
+
     pub(crate) fn top(&self, id: DiagramId) -> Entry
         requires { Holds self.now id }
         ensures { IsTop (64 * N) self.now id result }
@@ -202,6 +211,17 @@ impl<const N: usize> Entries<N> {
                 None => false,
                 Some(budget) => budget < count,
             },
+        }
+    }
+
+    /// The diagram has one value at every decision, and it is not 0.
+    pub(crate) fn is_full(&self, id: DiagramId) -> bool
+        requires { Holds self.now id }
+        ensures { IsTrue result → (decision : List Side) → value_at self.now id decision ≡ 0 → ⊥ }
+    {
+        match self.top(id) {
+            Entry::Leaf(value) => value != 0,
+            Entry::Choice(_, _, _) => false,
         }
     }
 

@@ -11,12 +11,15 @@
 //! recursion, `Table::combined`, for every operation.
 #![tactic(auto)]
 
+mod combining;
 mod counts;
 mod entries;
 mod entry;
 mod ids;
 mod operation;
 mod question;
+mod region;
+mod spending;
 mod split;
 mod table;
 

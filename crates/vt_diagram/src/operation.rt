@@ -4,7 +4,7 @@ ghost use Rattle.vt_diagram.specs.Operations.{made_of};
 /// What is made of two values, at each decision.
 #[derive(Clone, Copy, Debug, PartialEq, Eq, PartialOrd, Ord)]
 pub(crate) enum Operation {
-    /// The second where the first is not 0, and else 0.
+    /// The first where the second is not 0, and else 0.
     Both,
     /// The first where it is not 0, and else the second.
     Either,
@@ -21,7 +21,7 @@ impl Operation {
         ensures { result ≡ made_of self one other }
     {
         match self {
-            Operation::Both => { if one == 0 { 0 } else { other } }
+            Operation::Both => { if other == 0 { 0 } else { one } }
             Operation::Either => { if one == 0 { other } else { one } }
             Operation::Without => { if other == 0 { one } else { 0 } }
             Operation::Same => { if one == other { 1 } else { 0 } }

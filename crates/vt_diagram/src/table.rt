@@ -19,8 +19,9 @@ use vt_dec::{Decision, Dim};
 /// Diagrams, each once. What was made of two of them is remembered.
 #[derive(Debug, Drop)]
 pub struct Table<const N: usize> {
-    entries: Entries<N>,
-    known: BTreeMap<Question, DiagramId>,
+    pub(crate) entries: Entries<N>,
+    // What was asked, with the answer.
+    pub(crate) known: BTreeMap<Question, DiagramId>,
 }
 
 impl<const N: usize> Model for Table<N> {
@@ -53,7 +54,15 @@ impl<const N: usize> Table<N> {
         self.entries.size()
     }
 
-    /// The diagram that has one value at every decision.
+    /// The diagram that is 0 at every decision, and the region that has none.
+    pub fn zero(&self) -> DiagramId
+        ensures number { result ≡ 0 }
+        ensures is { Holds self.now result × (tree_at self.now result ≡ Tip 0) }
+    {
+        self.entries.zero()
+    }
+
+    /// The diagram that has one value at every decision. That of 0 takes no memory.
     pub fn leaf(&mut self, value: u32) -> Result<DiagramId, AllocError>
         ensures grows { Grows self.old self.new }
         ensures is { IfOk result (λ id. Holds self.new id × (tree_at self.new id ≡ Tip value)) }
