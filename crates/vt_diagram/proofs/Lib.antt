@@ -9,3 +9,4 @@ pub mod Canonical
 pub mod RightCounts
 pub mod Remembering
 pub mod Answering
+pub mod Contexts

@@ -1,8 +1,7 @@
-use Rattle.std.proofs.Common.{◌≡◌, ℕ, ◌+◌, ◌<◌, ◌≤◌, List, length, slice_get, ap, sym, subst, ◌∙◌, arith}
+use Rattle.std.proofs.Common.{◌≡◌, ℕ, ◌+◌, ◌<◌, ◌≤◌, List, length, slice_get, ap, sym, ◌∙◌, arith}
 use Rattle.vt_diagram.specs.declared.entry.Entry.{Entry}
-use Rattle.vt_diagram.specs.declared.entry.Entry.TheVariants.{Choice}
-use Rattle.vt_diagram.specs.Tables.{value_at, tree_at, IsJoined, StandsFor, Grows}
-use Rattle.vt_diagram.specs.Trees.{Tree, Tip, Fork, value_in, IsOrdered, by_side}
+use Rattle.vt_diagram.specs.Tables.{value_at, tree_at, IsJoined}
+use Rattle.vt_diagram.specs.Trees.{Tree, Tip, Fork, IsOrdered, by_side}
 use Rattle.vt_diagram.proofs.Sides.{by_side-same}
 
 -- A choice between two diagrams of a table.
@@ -16,13 +15,4 @@ joined-same bound entries dim left right same within ordered = record {
   within = within;
   at_each = λ decision. sym (ap (λ own. by_side (slice_get decision dim) (value_at entries left decision) (value_at entries own decision)) (sym same) ∙ by_side-same (slice_get decision dim) (value_at entries left decision));
   ordered = λ from le. IsOrdered-earlier bound (dim + 1) from (tree_at entries left) (omega arith) ordered;
-}
-
-pub joined-choice : (bound : ℕ) (old entries : List Entry) (dim left right id : ℕ) → dim < bound → Grows old entries → left < length old → right < length old → IsOrdered bound (dim + 1) (tree_at old left)
-    → IsOrdered bound (dim + 1) (tree_at old right) → StandsFor entries id (Choice dim left right) → IsJoined bound entries dim left right id
-joined-choice bound old entries dim left right id below grows l r l_ordered r_ordered stands = record {
-  within = stands.within;
-  at_each = λ decision. ap (value_in decision) stands.is;
-  ordered = λ from le.
-      subst (IsOrdered bound from) (sym stands.is) (le, below, subst (IsOrdered bound (dim + 1)) (sym (grows.kept left l)) l_ordered, subst (IsOrdered bound (dim + 1)) (sym (grows.kept right r)) r_ordered);
 }

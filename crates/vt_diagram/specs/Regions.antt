@@ -3,8 +3,8 @@ use Rattle.vt_dec.specs.declared.side.Side.{Side}
 use Rattle.vt_dec.specs.declared.side.Space.{Space}
 use Rattle.vt_dec.specs.Decisions.{Region, Decides, Takes, IsIn, IsNextDecided}
 use Rattle.vt_diagram.specs.declared.entry.Entry.{Entry}
-use Rattle.vt_diagram.specs.Trees.{Tree, value_in, IsOrdered}
-use Rattle.vt_diagram.specs.Tables.{Holds, value_at}
+use Rattle.vt_diagram.specs.Tables.{Holds, tree_at, value_at}
+use Rattle.vt_diagram.specs.Trees.{IsOrdered}
 
 -- A region is a diagram that is not 0 exactly at the decisions of a set.
 
@@ -28,14 +28,21 @@ pub record IsWritten (N : ℕ) (space : Space) (entries : List Entry) (region va
   pub inside : (decision : List Side) → IsOf N space decision → Has entries region decision → value_at entries id decision ≡ value
   pub outside : (decision : List Side) → IsOf N space decision → (Has entries region decision → ⊥) → value_at entries id decision ≡ value_at entries old decision
 
+-- the part of a region that takes a side, by a dimension before all of the region's
+pub record IsOnSide (bound : ℕ) (entries : List Entry) (dim : ℕ) (side : Side) (rest id : ℕ) : Type 0 where
+  pub within : Holds entries id
+  pub has : (decision : List Side) → length decision ≡ bound → Has entries id decision ↔ (Takes decision dim side × Has entries rest decision)
+  pub ordered : (from : ℕ) → from ≤ dim → IsOrdered bound from (tree_at entries id)
+
 -- the decision takes what the context decides from a dimension on
 abbrev pub TakesFrom : Region → ℕ → List Side → Type 0
 TakesFrom region from decision = (dim : ℕ) (side : Side) → from ≤ dim → Decides region dim side → Takes decision dim side
 
--- the diagram is not 0 exactly there
-pub record IsRegionFrom (bound : ℕ) (region : Region) (from : ℕ) (tree : Tree) : Type 0 where
-  pub ordered : IsOrdered bound from tree
-  pub has : (decision : List Side) → length decision ≡ bound → (value_in decision tree ≡ 0 → ⊥) ↔ TakesFrom region from decision
+-- the region has exactly these decisions
+pub record IsRegionFrom (bound : ℕ) (region : Region) (from : ℕ) (entries : List Entry) (id : ℕ) : Type 0 where
+  pub within : Holds entries id
+  pub has : (decision : List Side) → length decision ≡ bound → Has entries id decision ↔ TakesFrom region from decision
+  pub ordered : IsOrdered bound from (tree_at entries id)
 
 -- the first dimension from a number on that the context decides
 pub record IsNextIn (region : Region) (from dim : ℕ) (side : Side) : Type 0 where

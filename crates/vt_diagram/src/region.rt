@@ -2,15 +2,16 @@
 ghost use Rattle.std.specs.Prelude.{◌≡◌, ◌⊎◌, ◌↔◌, ◌+◌, ◌*◌, ◌<◌, IfOk, IsTrue, List};
 ghost use Rattle.vt_dec.specs.declared.side.Side.{Side};
 ghost use Rattle.vt_dec.specs.declared.side.Space.{Space};
-ghost use Rattle.vt_dec.specs.Decisions.{Takes};
-ghost use Rattle.vt_diagram.specs.Regions.{Has, IsOf, IsRegion, IsWritten};
-ghost use Rattle.vt_diagram.specs.Tables.{Holds, Grows, value_at};
+ghost use Rattle.vt_dec.specs.Decisions.{Admits, Takes};
+ghost use Rattle.vt_diagram.specs.Regions.{Has, IsNextOf, IsOf, IsOnSide, IsRegion, IsRegionFrom, IsWritten};
+ghost use Rattle.vt_diagram.specs.Tables.{Holds, Grows, tree_at, value_at};
+ghost use Rattle.vt_diagram.specs.Trees.{IsOrdered};
 
 use crate::operation::Operation;
 use crate::spending::budget_of;
 use crate::{DiagramId, Table};
 use std::alloc::AllocError;
-use vt_dec::{Dim, Side, Space};
+use vt_dec::{Context, Dim, Side, Space};
 
 impl<const N: usize> Table<N> {
     /// The decisions of the space that both regions have.
@@ -96,13 +97,67 @@ impl<const N: usize> Table<N> {
     pub fn on(&mut self, dim: Dim, side: Side) -> Result<DiagramId, AllocError>
         requires { dim < 64 * N }
         ensures grows { Grows self.old self.new }
-        ensures on { (space : Space) → IfOk result (IsRegion N space self.new (λ decision. Takes decision dim side)) }
+        ensures on { IfOk result (λ id. (space : Space) → IsRegion N space self.new (λ decision. Takes decision dim side) id) }
     {
         let all = self.leaf(1)?;
+        self.on_side(dim, side, all)
+    }
+
+    /// The decisions that a context admits. Where its budget is used up the rest takes no choice, so a
+    /// context that decides one dimension costs the same whatever the number of dimensions.
+    pub fn of(&mut self, within: &Context<N>) -> Result<DiagramId, AllocError>
+        ensures grows { Grows self.old self.new }
+        ensures of { IfOk result (IsRegion N within.now.space self.new (Admits within.now)) }
+    {
+        within.sized();
+        self.of_from(within, Dim(0))
+    }
+
+    // The region of what the context decides from a dimension on.
+    fn of_from(&mut self, within: &Context<N>, from: Dim) -> Result<DiagramId, AllocError>
+        ensures grows { Grows self.old self.new }
+        ensures of { IfOk result (IsRegionFrom (64 * N) within.now from self.new) }
+    {
+        within.sized();
+        match next_in(within, from) {
+            None => self.leaf(1),
+            Some((dim, side)) => {
+                let next = after(dim)?;
+                let rest = self.of_from(within, next)?;
+                self.on_side(dim, side, rest)
+            }
+        }
+    }
+
+    // The part of a region that takes a side.
+    fn on_side(&mut self, dim: Dim, side: Side, rest: DiagramId) -> Result<DiagramId, AllocError>
+        requires below { dim < 64 * N }
+        requires rest { Holds self.old rest × IsOrdered (64 * N) (dim + 1) (tree_at self.old rest) }
+        ensures grows { Grows self.old self.new }
+        ensures is { IfOk result (IsOnSide (64 * N) self.new dim side rest) }
+    {
         let none = self.zero();
         match side {
-            Side::Left => self.choice(dim, all, none),
-            Side::Right => self.choice(dim, none, all),
+            Side::Left => self.choice(dim, rest, none),
+            Side::Right => self.choice(dim, none, rest),
         }
+    }
+}
+
+// The first dimension from a number on that the context decides.
+fn next_in<const N: usize>(within: &Context<N>, from: Dim) -> Option<(Dim, Side)>
+    ensures { IsNextOf within.now from result }
+{
+    within.next_decided(from)
+}
+
+// The next dimension. There is none after the last number that a dimension can have, which is far
+// above those that a decision has.
+fn after(dim: Dim) -> Result<Dim, AllocError>
+    ensures { IfOk result (λ next. next ≡ dim + 1) }
+{
+    match dim.0.checked_add(1) {
+        Some(next) => Ok(Dim(next)),
+        None => Err(AllocError),
     }
 }
