@@ -1,5 +1,6 @@
-use Rattle.std.proofs.Common.{◌≡◌, ◌⊎◌, ◌↔◌, ℕ, zero, suc, ◌+◌, ◌<◌, ◌≤◌, min, IsTrue, Bool, true, false, nat_lt, List, length, replicate, set, slice_get, Option, Some, None, refl, ap, sym, subst, ◌∙◌, inl, inr, arith}
-use Rattle.std.proofs.lemmas.Bool.{cases_lt}
+use Rattle.std.proofs.Common.{◌≡◌, ◌⊎◌, ◌↔◌, ℕ, zero, suc, ◌+◌, ◌<◌, ◌≤◌, min, IsTrue, Bool, true, false, nat_lt, eqb, List, length, replicate, set, slice_get, Option, Some, None, refl, ap, sym, subst, ◌∙◌, inl, inr, arith}
+use Rattle.std.specs.Option.{option_eq}
+use Rattle.std.proofs.lemmas.Bool.{cases_lt, eq-eqb}
 use Rattle.std.proofs.lemmas.Bool.Decides.{nat_tests}
 use Rattle.std.proofs.lemmas.List.{length-set, length-replicate}
 use Rattle.std.proofs.lemmas.Option.{same_Some}
@@ -10,7 +11,7 @@ use Rattle.vt_dec.specs.declared.side.Space.TheVariants.{All, AtMost}
 use Rattle.vt_dec.specs.Decisions.{rights, IsIn}
 use Rattle.vt_dec.proofs.Agreement.{rights-set}
 use Rattle.vt_dec.proofs.Slices.{slice_get-set_same, slice_get-set_other}
-use Rattle.vt_diagram.specs.Rights.{fewer, one_more, fewest_in}
+use Rattle.vt_diagram.specs.Rights.{fewer, one_more, fewest_in, IsWitness}
 use Rattle.vt_diagram.specs.Trees.{Tree, Tip, Fork, value_in, IsOrdered, by_side}
 use Rattle.vt_diagram.proofs.Sides.{rights-to_left, rights-all_left, value_in-set}
 use Rattle.vt_diagram.proofs.Slices.{slice_get-replicate}
@@ -54,13 +55,6 @@ at_most bound from (Fork dim left right) d ordered some =
         (one_more-at_most (fewest_in right) (rights (set d dim Left)) (rights d) (rights-to_left d dim e) (r (λ z. s (sym same ∙ z))))
 
 -- ---- a decision has so many
-
--- a decision with so many Rights at which the diagram is not 0; it takes Left below where the diagram begins
-record IsWitness (bound from count : ℕ) (tree : Tree) (d : List Side) : Type 0 where
-  long : length d ≡ bound
-  rights_are : rights d ≡ count
-  some : value_in d tree ≡ 0 → ⊥
-  lefts : (dim : ℕ) → dim < from → dim < bound → slice_get d dim ≡ Some Left
 
 fewer-is : (one other : Option ℕ) (count : ℕ) → fewer one other ≡ Some count → (one ≡ Some count) ⊎ (other ≡ Some count)
 fewer-is None other count e = inr e
@@ -118,6 +112,37 @@ witness bound from (Fork dim left right) count ordered e =
         let m = one_more-is (fewest_in right) count is in
         let w = r m.0 m.1 in
         (set w.0 dim Right, subst (λ n. IsWitness bound from n (Fork dim left right) (set w.0 dim Right)) m.2 (witness-right bound from dim m.0 left right w.0 ordered w.1))
+
+-- the same by what a diagram is at its top
+
+option_eq-same : (count : Option ℕ) → option_eq eqb count count ≡ true
+option_eq-same None = refl
+option_eq-same (Some count) = eq-eqb count count refl
+
+option-differ : (one other : Option ℕ) → option_eq eqb one other ≡ false → one ≡ other → ⊥
+option-differ one other differ same = let equal : option_eq eqb one other ≡ true = ap (option_eq eqb one) (sym same) ∙ option_eq-same one in absurd (let both = sym equal ∙ differ in cc)
+
+pub tip-witness : (bound from value count : ℕ) (tree : Tree) (d : List Side) → tree ≡ Tip value → d ≡ replicate bound Left → fewest_in tree ≡ Some count → IsWitness bound from count tree d
+tip-witness bound from value count tree d is lefts found =
+    subst (λ own. IsWitness bound from count own d) (sym is) (subst (IsWitness bound from count (Tip value)) (sym lefts) (witness-tip bound from value count (ap fewest_in (sym is) ∙ found)))
+
+pub left-witness : (bound from dim count : ℕ) (tree left right : Tree) (d : List Side) → tree ≡ Fork dim left right → IsOrdered bound from tree → IsWitness bound (dim + 1) count left d → IsWitness bound from count tree d
+left-witness bound from dim count tree left right d is ordered w =
+    subst (λ own. IsWitness bound from count own d) (sym is) (witness-left bound from dim count left right d (subst (IsOrdered bound from) is ordered) w)
+
+pub right-witness : (bound from dim count : ℕ) (tree left right : Tree) (e d : List Side) → tree ≡ Fork dim left right → IsOrdered bound from tree → fewest_in tree ≡ Some count → false ≡ option_eq eqb (fewest_in tree) (fewest_in left)
+    → ((few : ℕ) → fewest_in right ≡ Some few → IsWitness bound (dim + 1) few right e) → d ≡ set e dim Right → IsWitness bound from count tree d
+right-witness bound from dim count tree left right e d is ordered found differ w changed =
+    subst (λ own. IsWitness bound from count own d) (sym is) (subst (IsWitness bound from count (Fork dim left right)) (sym changed) (by (fewer-is (fewest_in left) (one_more (fewest_in right)) count here)))
+  where
+    here : fewest_in (Fork dim left right) ≡ Some count
+    here = ap fewest_in (sym is) ∙ found
+
+    by : (fewest_in left ≡ Some count) ⊎ (one_more (fewest_in right) ≡ Some count) → IsWitness bound from count (Fork dim left right) (set e dim Right)
+    by (inl on_left) = absurd (option-differ (fewest_in tree) (fewest_in left) (sym differ) (found ∙ sym on_left))
+    by (inr on_right) =
+        let m = one_more-is (fewest_in right) count on_right in
+        subst (λ n. IsWitness bound from n (Fork dim left right) (set e dim Right)) m.2 (witness-right bound from dim m.0 left right e (subst (IsOrdered bound from) is ordered) (w m.0 m.1))
 
 -- ---- where a diagram is 0 everywhere
 

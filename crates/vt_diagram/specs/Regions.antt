@@ -22,6 +22,11 @@ abbrev pub IsRegion : ℕ → Space → List Entry → (List Side → Type 0) �
 IsRegion N space entries set id =
     Holds entries id × ((decision : List Side) → IsOf N space decision → Has entries id decision ↔ set decision)
 
+-- a decision of the space that the region has, or none
+abbrev pub IsMember : ℕ → Space → List Entry → ℕ → Option (List Side) → Type 0
+IsMember N space entries id None = (decision : List Side) → IsOf N space decision → Has entries id decision → ⊥
+IsMember N space entries id (Some decision) = IsOf N space decision × Has entries id decision
+
 -- in the space, the diagram has a value in a region, and what another one has outside of it
 pub record IsWritten (N : ℕ) (space : Space) (entries : List Entry) (region value old id : ℕ) : Type 0 where
   pub within : Holds entries id

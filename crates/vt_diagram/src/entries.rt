@@ -1,9 +1,10 @@
-ghost use Rattle.std.specs.Prelude.{ℕ, List, Some, IsTrue, ◌↔◌, ◌≡◌, ◌+◌, ◌*◌, ◌<◌, [], ◌∷◌, IfOk, length};
+ghost use Rattle.std.specs.Prelude.{ℕ, List, Option, Some, IsTrue, ◌↔◌, ◌≡◌, ◌+◌, ◌*◌, ◌<◌, [], ◌∷◌, IfOk, length};
 ghost use Rattle.vt_dec.specs.declared.side.Side.{Side};
 ghost use Rattle.vt_dec.specs.Decisions.{IsIn};
 ghost use Rattle.vt_diagram.specs.declared.entry.Entry.TheVariants.{Leaf};
 ghost use Rattle.vt_diagram.specs.Budgets.{IsWithin};
-ghost use Rattle.vt_diagram.specs.Rights.{fewest_in};
+ghost use Rattle.vt_diagram.specs.Rights.{fewest_in, IsWitness};
+ghost use Rattle.vt_diagram.specs.Regions.{IsMember};
 ghost use Rattle.vt_diagram.specs.Tables.{value_at, tree_at, tree_of, Holds, IsEntry, IsTop, IsJoined, Grows, StandsFor};
 ghost use Rattle.vt_diagram.specs.Trees.{Tip, IsOrdered, Agree};
 
@@ -211,6 +212,40 @@ impl<const N: usize> Entries<N> {
                 None => false,
                 Some(budget) => budget < count,
             },
+        }
+    }
+
+    /// A decision of the space at which the diagram is not 0, with as few `Right`s as there can be.
+    pub(crate) fn member(&self, id: DiagramId, space: Space) -> Option<Decision<N>>
+        requires { Holds self.now id }
+        ensures { IsMember N space self.now id result }
+    {
+        let Some(count) = self.fewest(id) else {
+            return None;
+        };
+        if let Space::AtMost(budget) = space {
+            if budget < count {
+                return None;
+            }
+        }
+        Some(self.witness(id))
+    }
+
+    // A decision at which the diagram is not 0, with as few `Right`s as there can be.
+    fn witness(&self, id: DiagramId) -> Decision<N>
+        requires { Holds self.now id }
+        ensures { (from count : ℕ) → IsOrdered (64 * N) from (tree_at self.now id) → fewest_in (tree_at self.now id) ≡ Some count → IsWitness (64 * N) from count (tree_at self.now id) result }
+    {
+        match self.top(id) {
+            Entry::Leaf(_) => Decision::all_left(),
+            Entry::Choice(dim, left, right) => {
+                if self.fewest(id) == self.fewest(left) {
+                    return self.witness(left);
+                }
+                let mut decision = self.witness(right);
+                decision.set(dim, Side::Right);
+                decision
+            }
         }
     }
 

@@ -3,7 +3,7 @@ ghost use Rattle.std.specs.Prelude.{◌≡◌, ◌⊎◌, ◌↔◌, ◌+◌, �
 ghost use Rattle.vt_dec.specs.declared.side.Side.{Side};
 ghost use Rattle.vt_dec.specs.declared.side.Space.{Space};
 ghost use Rattle.vt_dec.specs.Decisions.{Admits, Takes};
-ghost use Rattle.vt_diagram.specs.Regions.{Has, IsNextOf, IsOf, IsOnSide, IsRegion, IsRegionFrom, IsWritten};
+ghost use Rattle.vt_diagram.specs.Regions.{Has, IsMember, IsNextOf, IsOf, IsOnSide, IsRegion, IsRegionFrom, IsWritten};
 ghost use Rattle.vt_diagram.specs.Tables.{Holds, Grows, tree_at, value_at};
 ghost use Rattle.vt_diagram.specs.Trees.{IsOrdered};
 
@@ -11,7 +11,7 @@ use crate::operation::Operation;
 use crate::spending::budget_of;
 use crate::{DiagramId, Table};
 use std::alloc::AllocError;
-use vt_dec::{Context, Dim, Side, Space};
+use vt_dec::{Context, Decision, Dim, Side, Space};
 
 impl<const N: usize> Table<N> {
     /// The decisions of the space that both regions have.
@@ -91,6 +91,14 @@ impl<const N: usize> Table<N> {
         ensures { IsTrue result ↔ ((decision : List Side) → IsOf N space decision → Has self.now region decision → ⊥) }
     {
         self.entries.is_empty(region, space)
+    }
+
+    /// A decision of the space that the region has, with as few `Right`s as there can be.
+    pub fn member(&self, space: Space, region: DiagramId) -> Option<Decision<N>>
+        requires { Holds self.now region }
+        ensures { IsMember N space self.now region result }
+    {
+        self.entries.member(region, space)
     }
 
     /// The decisions that take a side.
