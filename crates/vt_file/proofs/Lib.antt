@@ -1,3 +1,4 @@
 pub mod EventPlaces
+pub mod LeafSpans
 pub mod ScopeRefusals
 pub mod OneReading

@@ -4,6 +4,7 @@ ghost use Rattle.vt_lex.specs.Spans.{AreSpansIn, BeginWithAt, LiesIn};
 ghost use Rattle.vt_type.specs.Constants.{core_constants};
 ghost use Rattle.vt_parse.specs.Answer.{IsParsed, IsUnexpected, IsTooDeep};
 ghost use Rattle.vt_scope.specs.Faults.{IsFault};
+ghost use Rattle.vt_report.specs.Reports.{StandIn};
 ghost use Rattle.vt_file.specs.Files.{IsProgramOf, scope_fault, IsSourceOf, IsTypable};
 ghost use Rattle.vt_file.specs.Refusals.{IsNoProgram, IsFileFault};
 
@@ -27,6 +28,7 @@ pub fn read(alloc: Global, bytes: &[u8]) -> Result<Source<'_>, FileFault>
     requires { length bytes.now ≤ most_bytes }
     ensures text { IfOk result (λ s. s.text.now ≡ bytes.now) }
     ensures source { IfOk result (λ s. IsSourceOf bytes.now s.program s.resolved.core s.resolved.leaves s.resolved.tables.dims) }
+    ensures places { IfOk result (λ s. StandIn bytes.now s.resolved.leaves) }
     ensures constants { IfOk result (λ s. s.constants ≡ core_constants) }
     ensures typable { IfOk result (λ s. IsTypable s.resolved.core (length s.resolved.tables.dims)) }
     ensures fault { IfErr result (IsFileFault bytes.now) }
@@ -96,6 +98,7 @@ fn source_of<'a>(alloc: Global, text: &'a str, tokens: &[Token]) -> Result<Sourc
     requires dimensions { BeginWithAt text.now tokens.now }
     ensures text { IfOk result (λ s. s.text.now ≡ text.now) }
     ensures source { IfOk result (λ s. IsSourceOf text.now s.program s.resolved.core s.resolved.leaves s.resolved.tables.dims) }
+    ensures places { IfOk result (λ s. StandIn text.now s.resolved.leaves) }
     ensures constants { IfOk result (λ s. s.constants ≡ core_constants) }
     ensures typable { IfOk result (λ s. IsTypable s.resolved.core (length s.resolved.tables.dims)) }
     ensures fault { IfErr result (IsFileFault text.now) }
@@ -176,6 +179,7 @@ fn resolved_of<'a>(
     requires spans { AreSpansIn text.now tokens.now }
     ensures text { IfOk result (λ s. s.text.now ≡ text.now) }
     ensures source { IfOk result (λ s. IsSourceOf text.now s.program s.resolved.core s.resolved.leaves s.resolved.tables.dims) }
+    ensures places { IfOk result (λ s. StandIn text.now s.resolved.leaves) }
     ensures constants { IfOk result (λ s. s.constants ≡ core_constants) }
     ensures typable { IfOk result (λ s. IsTypable s.resolved.core (length s.resolved.tables.dims)) }
     ensures fault { IfErr result (IsFileFault text.now) }

@@ -1,7 +1,8 @@
-ghost use Rattle.std.specs.Prelude.{◌≡◌, ◌++◌, codes, decimal, string_bytes, IfOk, OnOk};
+ghost use Rattle.std.specs.Prelude.{◌≡◌, ◌++◌, codes, decimal, string_bytes, IfOk};
 ghost use Rattle.vt_report.specs.Lines.{line, placed, refusal_line};
 
 use crate::Refusal;
+use crate::writing::{push, push_number, push_place};
 use std::alloc::{AllocError, Global};
 use vt_lex::LineCol;
 
@@ -84,26 +85,4 @@ fn too_big_change(alloc: Global, at: LineCol) -> Result<String, AllocError>
     push_place(&mut out, at)?;
     push(&mut out, " has more than 4096 nodes\n")?;
     Ok(out)
-}
-
-// The line and the column of a place.
-fn push_place(out: &mut String, at: LineCol) -> Result<(), AllocError>
-    ensures { OnOk result (string_bytes out.new ≡ string_bytes out.old ++ decimal at.line ++ codes ":" ++ decimal at.column) }
-{
-    push_number(out, at.line)?;
-    push(out, ":")?;
-    push_number(out, at.column)
-}
-
-fn push(out: &mut String, text: &str) -> Result<(), AllocError>
-    ensures { OnOk result (string_bytes out.new ≡ string_bytes out.old ++ text.now) }
-{
-    out.push_str(text)
-}
-
-fn push_number(out: &mut String, number: u32) -> Result<(), AllocError>
-    ensures { OnOk result (string_bytes out.new ≡ string_bytes out.old ++ decimal number) }
-{
-    write!(out, "{number}")?;
-    Ok(())
 }

@@ -20,3 +20,5 @@ mod grouping;
 mod lines;
 #[cfg(test)]
 mod programs;
+#[cfg(test)]
+mod reports;

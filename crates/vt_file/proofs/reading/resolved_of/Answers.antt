@@ -1,10 +1,15 @@
 use Rattle.vt_file.proofs.ScopeRefusals.{source_is, typable}
+use Rattle.vt_file.proofs.LeafSpans.{leaves_stand}
 use Rattle.vt_file.proofs.reading.resolved_of.Goals as goal
 
 pub returns-in-Ok-resolve-clause-source : goal.returns-in-Ok-resolve-clause-source
 returns-in-Ok-resolve-clause-source c =
     let is = c.in-Ok-resolve.ensures in
     source_is _ c.args.program _ _ _ c.in-Ok.ensures c.args.text.now c.args.tokens.now c.requires.read c.requires.spans is.core is.dims is.fault
+
+pub returns-in-Ok-resolve-clause-places : goal.returns-in-Ok-resolve-clause-places
+returns-in-Ok-resolve-clause-places c =
+    leaves_stand c.args.text.now c.args.tokens.now c.args.program _ _ _ _ c.requires.read c.requires.spans c.in-Ok-resolve.ensures.core
 
 pub returns-in-Ok-resolve-clause-typable : goal.returns-in-Ok-resolve-clause-typable
 returns-in-Ok-resolve-clause-typable c =
