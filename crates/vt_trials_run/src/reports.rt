@@ -119,7 +119,8 @@ fn changes_are_told_in_order(rt: HostRuntime) -> Result<(), Fail> {
     let lines = changes_of_sum(rt.alloc())?;
     let said = report(rt.alloc(), "1 + true", &lines);
     drop(lines);
-    let text = "ill typed; 2 changes\n1:5 true wants Int, result Int\n1:3 + wants Int -> Bool -> 'a, result 'a\n";
+    let text =
+        "ill typed; 2 changes\n1:5 true wants Int, result Int\n1:3 + wants Int -> Bool -> 'a, result 'a\n";
     assert!(rt; said?.is_some_and(|said| said.as_str() == text));
     Ok(())
 }
