@@ -10,3 +10,4 @@ pub mod RightCounts
 pub mod Remembering
 pub mod Answering
 pub mod Contexts
+pub mod Renamings

@@ -5,3 +5,4 @@ pub mod Operations
 pub mod Budgets
 pub mod Answers
 pub mod Regions
+pub mod Renaming

@@ -22,6 +22,10 @@ abbrev pub IsRegion : ℕ → Space → List Entry → (List Side → Type 0) �
 IsRegion N space entries set id =
     Holds entries id × ((decision : List Side) → IsOf N space decision → Has entries id decision ↔ set decision)
 
+-- the region has exactly the decisions that take a side
+abbrev pub IsSide : ℕ → List Entry → ℕ → Side → ℕ → Type 0
+IsSide N entries dim side id = Holds entries id × ((decision : List Side) → length decision ≡ 64 * N → Has entries id decision ↔ Takes decision dim side)
+
 -- a decision of the space that the region has, or none
 abbrev pub IsMember : ℕ → Space → List Entry → ℕ → Option (List Side) → Type 0
 IsMember N space entries id None = (decision : List Side) → IsOf N space decision → Has entries id decision → ⊥

@@ -19,6 +19,7 @@ mod ids;
 mod operation;
 mod question;
 mod region;
+mod renamed;
 mod spending;
 mod split;
 mod table;

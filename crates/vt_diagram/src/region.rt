@@ -3,7 +3,7 @@ ghost use Rattle.std.specs.Prelude.{◌≡◌, ◌⊎◌, ◌↔◌, ◌+◌, �
 ghost use Rattle.vt_dec.specs.declared.side.Side.{Side};
 ghost use Rattle.vt_dec.specs.declared.side.Space.{Space};
 ghost use Rattle.vt_dec.specs.Decisions.{Admits, Takes};
-ghost use Rattle.vt_diagram.specs.Regions.{Has, IsMember, IsNextOf, IsOf, IsOnSide, IsRegion, IsRegionFrom, IsWritten};
+ghost use Rattle.vt_diagram.specs.Regions.{Has, IsMember, IsNextOf, IsOf, IsOnSide, IsRegion, IsRegionFrom, IsSide, IsWritten};
 ghost use Rattle.vt_diagram.specs.Tables.{Holds, Grows, tree_at, value_at};
 ghost use Rattle.vt_diagram.specs.Trees.{IsOrdered};
 
@@ -105,7 +105,7 @@ impl<const N: usize> Table<N> {
     pub fn on(&mut self, dim: Dim, side: Side) -> Result<DiagramId, AllocError>
         requires { dim < 64 * N }
         ensures grows { Grows self.old self.new }
-        ensures on { IfOk result (λ id. (space : Space) → IsRegion N space self.new (λ decision. Takes decision dim side) id) }
+        ensures on { IfOk result (IsSide N self.new dim side) }
     {
         let all = self.leaf(1)?;
         self.on_side(dim, side, all)
