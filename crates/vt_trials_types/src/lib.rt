@@ -11,6 +11,8 @@ mod changes;
 #[cfg(test)]
 mod decisions;
 #[cfg(test)]
+mod diagrams;
+#[cfg(test)]
 mod inference;
 #[cfg(test)]
 mod normal_forms;
