@@ -126,10 +126,6 @@ pub tip-witness : (bound from value count : ℕ) (tree : Tree) (d : List Side) �
 tip-witness bound from value count tree d is lefts found =
     subst (λ own. IsWitness bound from count own d) (sym is) (subst (IsWitness bound from count (Tip value)) (sym lefts) (witness-tip bound from value count (ap fewest_in (sym is) ∙ found)))
 
-pub left-witness : (bound from dim count : ℕ) (tree left right : Tree) (d : List Side) → tree ≡ Fork dim left right → IsOrdered bound from tree → IsWitness bound (dim + 1) count left d → IsWitness bound from count tree d
-left-witness bound from dim count tree left right d is ordered w =
-    subst (λ own. IsWitness bound from count own d) (sym is) (witness-left bound from dim count left right d (subst (IsOrdered bound from) is ordered) w)
-
 pub right-witness : (bound from dim count : ℕ) (tree left right : Tree) (e d : List Side) → tree ≡ Fork dim left right → IsOrdered bound from tree → fewest_in tree ≡ Some count → false ≡ option_eq eqb (fewest_in tree) (fewest_in left)
     → ((few : ℕ) → fewest_in right ≡ Some few → IsWitness bound (dim + 1) few right e) → d ≡ set e dim Right → IsWitness bound from count tree d
 right-witness bound from dim count tree left right e d is ordered found differ w changed =
