@@ -1,5 +1,7 @@
-use Rattle.std.proofs.Common.{◌≡◌, ◌⊎◌, inl, inr, ℕ, ◌*◌, ◌<◌, ◌≤◌, List, [], ◌∷◌, Option, Some, None, length, get_or, slice_get, refl, ap, sym, subst, ◌∙◌, arith}
+use Rattle.std.proofs.Common.{◌≡◌, ◌⊎◌, inl, inr, ℕ, ◌*◌, ◌<◌, ◌≤◌, List, [], ◌∷◌, ◌++◌, Option, Some, None, length, get_or, slice_get, refl, ap, sym, subst, ◌∙◌, arith}
 use Rattle.std.proofs.lemmas.Option.{slice_get-get_or}
+use Rattle.std.specs.List.{Contains}
+use Rattle.std.proofs.lemmas.List.Elements.{Contains-append_left, Contains-append_right, Contains-append_cases}
 use Rattle.vt_dec.specs.declared.side.Side.{Side}
 use Rattle.vt_dec.specs.declared.side.Side.TheVariants.{Left, Right}
 use Rattle.vt_dec.specs.declared.fate.Fate.TheVariants.{Alive}
@@ -14,13 +16,19 @@ use Rattle.vt_type.specs.Constants.{Constant}
 use Rattle.vt_store.specs.Patterns.{FateMap, fate_at}
 use Rattle.vt_store.specs.Stores.{Cells, cell_count}
 use Rattle.vt_store.specs.Writes.{IsOf}
-use Rattle.vt_infer.specs.Places.{Place}
+use Rattle.vt_infer.specs.Places.{Place, HaveCells}
 use Rattle.vt_infer.specs.Numbered.{AreBefore, IsNumberedCore}
-use Rattle.vt_infer.specs.Steps.{Keeps, Adds, Steps}
+use Rattle.vt_infer.specs.Steps.{Keeps, Adds, Steps, TypesOf}
 use Rattle.vt_infer.specs.Environments.{AreMeant}
 use Rattle.vt_infer.specs.Inferring.{solutions_at, GoesOn, IsNew, IsExpressed}
 use Rattle.vt_infer.specs.declared.work.Work.{Work}
+use Rattle.vt_infer.specs.declared.holes.MetHole.{MetHole}
+use Rattle.vt_infer.specs.Meetings.{HoleLog, AreMetAt, IsMarked}
+use Rattle.vt_infer.specs.Wanted.{AddsAt, TypesAtOf}
 use Rattle.vt_infer.proofs.Combining.{keeps-then, steps-keeps, keeps-steps, steps-same}
+use Rattle.vt_rules.specs.TypingAt.{HoldsHole}
+use Rattle.vt_infer.proofs.MarkedSteps.{at-keeps, at-result, keeps-at}
+use Rattle.vt_infer.proofs.PartsExpressed.{both_added, added_cells, added_spaces, added_inside}
 use Rattle.vt_infer.proofs.GoingOn.{goes_on-then, goes_on-new, of_same, meant-cells, meant-later}
 
 -- Choices, from their alternatives.
@@ -96,6 +104,50 @@ module _ (N : ℕ) (K : List Constant) (region : Region) (node : ℕ) (at : Span
           let is = selects_left decision takes in
           subst (λ e. IsStep decision old new result places e first last) (sym is)
           (inner.here decision of ((narrows.exactly decision).1 (admits, takes)) alive places first last meant before (subst (λ e. IsNumberedCore first e last) is numbered))
+
+  -- the holes of the one alternative that is there
+  abbrev AreMet : List Side → (old new : Work N) → ℕ → List Place → Core → List ℕ → List (MetHole N) → Type 0
+  AreMet decision old new result places e asked added =
+      AreMetAt K (cell_count old.store) (cell_count new.store) (solutions_at old.store decision) (solutions_at new.store decision) result places e decision asked added
+
+  pub marked-only_right : (result : ℕ) (old new : Work N) (log later : HoleLog N) → (CanTake region dim Left → ⊥) → IsMarked N K region right result old new log later → IsMarked N K region whole result old new log later
+  marked-only_right result old new log later never inner = record {
+    asked = inner.asked;
+    added = inner.added;
+    met = inner.met;
+    cells = inner.cells;
+    spaces = inner.spaces;
+    inside = inner.inside;
+    here = λ decision of admits alive still places first last meant before numbered. by decision of admits alive still places first last meant before numbered (side_of decision old.store.space of);
+  }
+    where
+      by : (decision : List Side) → IsOf N old.store.space decision → Admits region decision → fate_at old.pattern decision ≡ Alive → fate_at new.pattern decision ≡ Alive → (places : List Place) (first last : ℕ)
+          → AreMeant K (cell_count old.store) (solutions_at old.store decision) decision old.environment places → AreBefore first places → IsNumberedCore first (core_at decision whole) last
+          → Takes decision dim Left ⊎ Takes decision dim Right → AreMet decision old new result places (core_at decision whole) log.asked inner.added
+      by decision of admits alive still places first last meant before numbered (inl takes) = absurd (never (decision, admits, takes))
+      by decision of admits alive still places first last meant before numbered (inr takes) =
+          let is = selects_right decision takes in
+          subst (λ e. AreMet decision old new result places e log.asked inner.added) (sym is) (inner.here decision of admits alive still places first last meant before (subst (λ e. IsNumberedCore first e last) is numbered))
+
+  pub marked-only_left : (result : ℕ) (old new : Work N) (log later : HoleLog N) (part : Region) → Narrows region dim Left part → (CanTake region dim Right → ⊥) → IsMarked N K part left result old new log later → IsMarked N K region whole result old new log later
+  marked-only_left result old new log later part narrows never inner = record {
+    asked = inner.asked;
+    added = inner.added;
+    met = inner.met;
+    cells = inner.cells;
+    spaces = λ hole is. inner.spaces hole is ∙ narrows.space;
+    inside = λ hole decision is within. ((narrows.exactly decision).0 (inner.inside hole decision is within)).0;
+    here = λ decision of admits alive still places first last meant before numbered. by decision of admits alive still places first last meant before numbered (side_of decision old.store.space of);
+  }
+    where
+      by : (decision : List Side) → IsOf N old.store.space decision → Admits region decision → fate_at old.pattern decision ≡ Alive → fate_at new.pattern decision ≡ Alive → (places : List Place) (first last : ℕ)
+          → AreMeant K (cell_count old.store) (solutions_at old.store decision) decision old.environment places → AreBefore first places → IsNumberedCore first (core_at decision whole) last
+          → Takes decision dim Left ⊎ Takes decision dim Right → AreMet decision old new result places (core_at decision whole) log.asked inner.added
+      by decision of admits alive still places first last meant before numbered (inr takes) = absurd (never (decision, admits, takes))
+      by decision of admits alive still places first last meant before numbered (inl takes) =
+          let is = selects_left decision takes in
+          subst (λ e. AreMet decision old new result places e log.asked inner.added) (sym is)
+          (inner.here decision of ((narrows.exactly decision).1 (admits, takes)) alive still places first last meant before (subst (λ e. IsNumberedCore first e last) is numbered))
 
   -- both alternatives, each in its part of the context
   module _ (one other result : ℕ) (old middle after new : Work N) (on_left on_right : Region)
@@ -173,4 +225,118 @@ module _ (N : ℕ) (K : List Constant) (region : Region) (node : ℕ) (at : Span
       environment = environment ∙ rights.environment ∙ lefts.environment;
       is_cell = made.is_cell;
       here = λ decision of admits alive places first last meant before numbered. choice_here decision of admits alive places first last meant before numbered (side_of decision old.store.space of);
+    }
+
+    -- the holes of both
+    module _ (log between_log later_log : HoleLog N) (marked_left : IsMarked N K on_left left one old middle log between_log) (marked_right : IsMarked N K on_right right other middle after between_log later_log)
+        (decision : List Side) (of : IsOf N old.store.space decision) (admits : Admits region decision)
+        (alive : fate_at old.pattern decision ≡ Alive) (still : fate_at new.pattern decision ≡ Alive) (places : List Place) (first last : ℕ)
+        (meant : AreMeant K (cell_count old.store) (solutions_at old.store decision) decision old.environment places) (before : AreBefore first places) where
+      of_middle : IsOf N middle.store.space decision
+      of_middle = of_same N region old.store middle.store decision lefts.goes_on.space of
+
+      of_after : IsOf N after.store.space decision
+      of_after = of_same N region middle.store after.store decision rights.goes_on.space of_middle
+
+      alive_after : fate_at after.pattern decision ≡ Alive
+      alive_after = sym (ap (λ fates. fate_at fates decision) pattern) ∙ still
+
+      have : HaveCells (cell_count old.store) places
+      have = meant-cells K (cell_count old.store) (solutions_at old.store decision) decision old.environment places meant
+
+      met_left : Takes decision dim Left → IsNumberedCore first (core_at decision left) last → AreMet decision old new result places (core_at decision left) log.asked (marked_left.added ++ marked_right.added)
+      met_left takes numbered = record {
+        wanted = λ hole is within. by hole (Contains-append_cases marked_left.added marked_right.added hole is) within;
+        reached = λ mark asked holds.
+            let (hole, is, within, same) = inside.reached mark asked holds in
+            (hole, Contains-append_left marked_left.added marked_right.added hole is, within, same);
+      }
+        where
+          not_right : Admits on_right decision → ⊥
+          not_right admitted = apart decision takes ((narrows_right.exactly decision).0 admitted).1
+
+          alive_middle : fate_at middle.pattern decision ≡ Alive
+          alive_middle = sym (rights.goes_on.fates decision of_middle not_right) ∙ alive_after
+
+          inside : AreMet decision old middle one places (core_at decision left) log.asked marked_left.added
+          inside = marked_left.here decision of ((narrows_left.exactly decision).1 (admits, takes)) alive alive_middle places first last meant before numbered
+
+          same_type : Adds (cell_count after.store) (cell_count new.store) (solutions_at after.store decision) (solutions_at new.store decision) result (λ s type. type ≡ s one)
+          same_type = subst (λ side. Adds (cell_count after.store) (cell_count new.store) (solutions_at after.store decision) (solutions_at new.store decision) result (λ s type. type ≡ by_side side (s one) (s other))) takes (made.adds decision of_after)
+
+          by : (hole : MetHole N) → Contains marked_left.added hole ⊎ Contains marked_right.added hole → Admits hole.within decision
+              → HoldsHole hole.node (core_at decision left).node (core_at decision left).form
+              × AddsAt (cell_count old.store) (cell_count new.store) (solutions_at old.store decision) (solutions_at new.store decision) result hole.cell (TypesAtOf K hole.node places (core_at decision left))
+          by hole (inr is) within = absurd (not_right (marked_right.inside hole decision is within))
+          by hole (inl is) within =
+              let got = inside.wanted hole is within in (
+                got.0,
+                at-result (cell_count old.store) (cell_count after.store) (cell_count new.store) (solutions_at old.store decision) (solutions_at after.store decision) (solutions_at new.store decision) one result hole.cell (TypesAtOf K hole.node places (core_at decision left))
+                    (omega (arith, lefts.goes_on.grows, rights.goes_on.grows))
+                    (at-keeps (cell_count old.store) (cell_count middle.store) (cell_count after.store) (solutions_at old.store decision) (solutions_at middle.store decision) (solutions_at after.store decision) one hole.cell (TypesAtOf K hole.node places (core_at decision left))
+                    lefts.goes_on.grows lefts.is_cell got.1 (rights.goes_on.elsewhere decision of_middle not_right))
+                    same_type,
+              )
+
+      met_right : Takes decision dim Right → IsNumberedCore first (core_at decision right) last → AreMet decision old new result places (core_at decision right) log.asked (marked_left.added ++ marked_right.added)
+      met_right takes numbered = record {
+        wanted = λ hole is within. by hole (Contains-append_cases marked_left.added marked_right.added hole is) within;
+        reached = λ mark asked holds.
+            let (hole, is, within, same) = inside.reached mark (subst (λ asked. Contains asked mark) (sym marked_left.asked) asked) holds in
+            (hole, Contains-append_right marked_left.added marked_right.added hole is, within, same);
+      }
+        where
+          not_left : Admits on_left decision → ⊥
+          not_left admitted = apart decision ((narrows_left.exactly decision).0 admitted).1 takes
+
+          keeps : Keeps (cell_count old.store) (cell_count middle.store) (solutions_at old.store decision) (solutions_at middle.store decision)
+          keeps = lefts.goes_on.elsewhere decision of not_left
+
+          alive_middle : fate_at middle.pattern decision ≡ Alive
+          alive_middle = lefts.goes_on.fates decision of not_left ∙ alive
+
+          inside : AreMet decision middle after other places (core_at decision right) between_log.asked marked_right.added
+          inside = marked_right.here decision of_middle ((narrows_right.exactly decision).1 (admits, takes)) alive_middle alive_after places first last
+              (subst (λ entries. AreMeant K (cell_count middle.store) (solutions_at middle.store decision) decision entries places) (sym lefts.environment)
+              (meant-later K (cell_count old.store) (cell_count middle.store) (solutions_at old.store decision) (solutions_at middle.store decision) decision old.environment places keeps.grows keeps.old meant))
+              before numbered
+
+          same_type : Adds (cell_count after.store) (cell_count new.store) (solutions_at after.store decision) (solutions_at new.store decision) result (λ s type. type ≡ s other)
+          same_type = subst (λ side. Adds (cell_count after.store) (cell_count new.store) (solutions_at after.store decision) (solutions_at new.store decision) result (λ s type. type ≡ by_side side (s one) (s other))) takes (made.adds decision of_after)
+
+          by : (hole : MetHole N) → Contains marked_left.added hole ⊎ Contains marked_right.added hole → Admits hole.within decision
+              → HoldsHole hole.node (core_at decision right).node (core_at decision right).form
+              × AddsAt (cell_count old.store) (cell_count new.store) (solutions_at old.store decision) (solutions_at new.store decision) result hole.cell (TypesAtOf K hole.node places (core_at decision right))
+          by hole (inl is) within = absurd (not_left (marked_left.inside hole decision is within))
+          by hole (inr is) within =
+              let got = inside.wanted hole is within in (
+                got.0,
+                at-result (cell_count old.store) (cell_count after.store) (cell_count new.store) (solutions_at old.store decision) (solutions_at after.store decision) (solutions_at new.store decision) other result hole.cell (TypesAtOf K hole.node places (core_at decision right))
+                    (omega (arith, lefts.goes_on.grows, rights.goes_on.grows))
+                    (keeps-at K hole.node places (core_at decision right) (cell_count old.store) (cell_count middle.store) (cell_count after.store) (solutions_at old.store decision) (solutions_at middle.store decision) (solutions_at after.store decision) other hole.cell
+                    have keeps got.1)
+                    same_type,
+              )
+
+      choice_met : IsNumberedCore first (core_at decision whole) last → Takes decision dim Left ⊎ Takes decision dim Right → AreMet decision old new result places (core_at decision whole) log.asked (marked_left.added ++ marked_right.added)
+      choice_met numbered (inl takes) =
+          let is = selects_left decision takes in
+          subst (λ e. AreMet decision old new result places e log.asked (marked_left.added ++ marked_right.added)) (sym is) (met_left takes (subst (λ e. IsNumberedCore first e last) is numbered))
+      choice_met numbered (inr takes) =
+          let is = selects_right decision takes in
+          subst (λ e. AreMet decision old new result places e log.asked (marked_left.added ++ marked_right.added)) (sym is) (met_right takes (subst (λ e. IsNumberedCore first e last) is numbered))
+
+    pub marked-choice : (log between_log later_log : HoleLog N) → IsMarked N K on_left left one old middle log between_log → IsMarked N K on_right right other middle after between_log later_log
+        → IsMarked N K region whole result old new log later_log
+    marked-choice log between_log later_log marked_left marked_right = record {
+      asked = marked_right.asked ∙ marked_left.asked;
+      added = marked_left.added ++ marked_right.added;
+      met = both_added log between_log later_log marked_left.added marked_right.added marked_left.met marked_right.met;
+      cells = λ hole is. added_cells marked_left.added marked_right.added (cell_count middle.store) (cell_count after.store) (cell_count new.store) rights.goes_on.grows made.grows marked_left.cells marked_right.cells hole is;
+      spaces = λ hole is. added_spaces marked_left.added marked_right.added region.space (λ hole is. marked_left.spaces hole is ∙ narrows_left.space) (λ hole is. marked_right.spaces hole is ∙ narrows_right.space) hole is;
+      inside = λ hole decision is within. added_inside marked_left.added marked_right.added region
+          (λ hole decision is within. ((narrows_left.exactly decision).0 (marked_left.inside hole decision is within)).0)
+          (λ hole decision is within. ((narrows_right.exactly decision).0 (marked_right.inside hole decision is within)).0) hole decision is within;
+      here = λ decision of admits alive still places first last meant before numbered.
+          choice_met log between_log later_log marked_left marked_right decision of admits alive still places first last meant before numbered (side_of decision old.store.space of);
     }

@@ -10,6 +10,7 @@ use Rattle.vt_dec.specs.declared.fate.Fate.TheVariants.{Alive, Dead}
 use Rattle.vt_dec.specs.Decisions.{Region, Admits}
 use Rattle.vt_dec.proofs.Admitting.{Agrees-open}
 use Rattle.vt_syntax.specs.declared.core_program.CoreProgram.{CoreProgram}
+use Rattle.vt_syntax.specs.declared.leaf.Leaf.{Leaf}
 use Rattle.vt_syntax.specs.Checking.{numbers_of, IsInCheckingOrder, IsGreatest}
 use Rattle.vt_syntax.specs.Programs.{nested}
 use Rattle.vt_syntax.specs.Scoping.{IsClosed}
@@ -25,7 +26,7 @@ use Rattle.vt_infer.specs.declared.typed.Typed.{Typed}
 use Rattle.vt_infer.specs.declared.work.Work.{Work}
 use Rattle.vt_infer.specs.Definitions.{places_after}
 use Rattle.vt_infer.specs.Environments.{IsHeld, mono_cells, schemes_of}
-use Rattle.vt_infer.specs.Inferred.{IsInferred, IsPartAt, AreMarks, chosen}
+use Rattle.vt_infer.specs.Inferred.{IsInferred, AreLeafCells, IsPartAt, AreMarks, chosen}
 use Rattle.vt_infer.specs.Inferring.{IsReady, IsExpressed, IsGeneralised, solutions_at}
 use Rattle.vt_infer.specs.Parts.{Covers, HasSolutions, IsClosedForm, IsReachedAt, IsReached, IsStarted, defs_at, typed_of}
 use Rattle.vt_infer.proofs.FinishedLemmas.{reached_first, finish, main_reads, IsFinishedAt}
@@ -135,7 +136,7 @@ module _ (N : ℕ) (K : List Constant) (table : IsTable K) (region : Region) (co
     all_marks : AreMarks core (marks ++ mark ∷ [])
     all_marks = (mark, greatest, ap (λ list. list ++ mark ∷ []) (h.marks_are ∙ ap (map (λ d. d.node)) (take_all (length core.defs) core.defs (omega arith))))
 
-    inferred : IsInferred N K core region.space (record { store = new.store; pattern = new.pattern; main = main; schemes = schemes ++ scheme ∷ []; marks = marks ++ mark ∷ [] })
+    inferred : IsInferred N K core region.space (record { store = new.store; pattern = new.pattern; main = main; schemes = schemes ++ scheme ∷ []; marks = marks ++ mark ∷ []; leaf_cells = [] })
     inferred = record {
       store_space = store_same;
       pattern_space = e.goes_on.pattern_space ∙ h.pattern_space;
@@ -152,13 +153,18 @@ module _ (N : ℕ) (K : List Constant) (table : IsTable K) (region : Region) (co
 
     -- the same of what was found out, which is known by equations
     pub inferred_as : (last : Work N) (numbers : List ℕ) → last.store ≡ new.store → last.pattern ≡ new.pattern → last.environment ≡ entries → numbers ≡ marks ++ mark ∷ []
-        → IsInferred N K core region.space (typed_of last numbers main)
+        → IsInferred N K core region.space (typed_of last numbers main [])
     inferred_as last numbers store pattern environment marks_are =
         subst (IsInferred N K core region.space)
-        (sym (λ i. record { store = store i; pattern = pattern i; main = main; schemes = (ap schemes_of environment ∙ all_are) i; marks = marks_are i })) inferred
+        (sym (λ i. record { store = store i; pattern = pattern i; main = main; schemes = (ap schemes_of environment ∙ all_are) i; marks = marks_are i; leaf_cells = [] })) inferred
 
 -- what was found out in the whole context of a space
 pub inferred_in : (N : ℕ) (K : List Constant) (core : CoreProgram) (space : Space) (region : Region) → region ≡ record { sides = replicate (64 * N) None; space = space }
     → (found typed : Typed N) → IsInferred N K core region.space found → typed ≡ found → IsInferred N K core space typed
 inferred_in N K core space region is found typed inferred same =
     subst (λ s. IsInferred N K core s typed) (whole_space N space region is) (subst (IsInferred N K core region.space) (sym same) inferred)
+
+pub leaf_cells_in : (N : ℕ) (K : List Constant) (core : CoreProgram) (leaves : List Leaf) (space : Space) (region : Region) → region ≡ record { sides = replicate (64 * N) None; space = space }
+    → (found typed : Typed N) → AreLeafCells N K core leaves region.space found → typed ≡ found → AreLeafCells N K core leaves space typed
+leaf_cells_in N K core leaves space region is found typed cells same =
+    subst (λ s. AreLeafCells N K core leaves s typed) (whole_space N space region is) (subst (AreLeafCells N K core leaves region.space) (sym same) cells)

@@ -1,4 +1,7 @@
-use Rattle.std.proofs.Common.{◌≡◌, ℕ, ◌<◌, ◌≤◌, List, [], ◌∷◌, Some, map, drop, slice_get, refl, ap, sym, subst, ◌∙◌, arith}
+use Rattle.std.proofs.Common.{◌≡◌, ◌⊎◌, inl, inr, ℕ, ◌<◌, ◌≤◌, List, [], ◌∷◌, ◌++◌, Some, map, drop, slice_get, refl, ap, sym, subst, ◌∙◌, arith}
+use Rattle.std.specs.List.{Contains}
+use Rattle.std.proofs.lemmas.List.{append-nil}
+use Rattle.std.proofs.lemmas.List.Elements.{Contains-push, Contains-push_cases}
 use Rattle.vt_dec.specs.declared.side.Side.{Side}
 use Rattle.vt_dec.specs.declared.fate.Fate.TheVariants.{Alive}
 use Rattle.vt_dec.specs.Decisions.{Region, Admits}
@@ -12,6 +15,7 @@ use Rattle.vt_type.specs.declared.plain.Plain.{Plain, Var}
 use Rattle.vt_type.specs.Plain.{IsWellFormed, IsInstance, substituted}
 use Rattle.vt_type.specs.Constants.{Constant, IsTable, HasClosed}
 use Rattle.vt_rules.specs.Typing.{literal_type}
+use Rattle.vt_rules.specs.TypingAt.{HoldsHole}
 use Rattle.vt_scheme.specs.Schemes.{Allows}
 use Rattle.vt_scheme.specs.declared.scheme.Scheme.{Scheme}
 use Rattle.vt_store.specs.Patterns.{FateMap, fate_at}
@@ -25,7 +29,11 @@ use Rattle.vt_infer.specs.Inferring.{solutions_at, GoesOn, NewTypes, IsNew, IsJo
 use Rattle.vt_infer.specs.declared.environment.Entry.{Entry}
 use Rattle.vt_infer.specs.declared.environment.Entry.TheVariants.{Mono, Poly}
 use Rattle.vt_infer.specs.declared.work.Work.{Work}
+use Rattle.vt_infer.specs.declared.holes.MetHole.{MetHole}
+use Rattle.vt_infer.specs.Meetings.{HoleLog, IsNoted, AreMetAt, IsMarked}
+use Rattle.vt_infer.specs.Wanted.{AddsAt, TypesAtOf}
 use Rattle.vt_infer.proofs.FormSteps.{literal_step, constant_step, hole_step, mono_step, poly_step}
+use Rattle.vt_infer.proofs.MarkedSteps.{hole_at}
 use Rattle.vt_infer.proofs.GoingOn.{goes_on-itself, goes_on-new, meant-cells, meant-at, held-at}
 
 -- The forms that have no parts.
@@ -141,3 +149,71 @@ module _ (N : ℕ) (K : List Constant) (table : IsTable K) (region : Region) (no
       by : (entry : Entry N) → slice_get old.environment distance ≡ Some entry → IsUsed N region entry node result old.store new.store old.pattern new.pattern → IsExpressed N K region (core node at (Name distance)) result old new
       by (Mono cell) found used = named_mono distance cell found used.0 used.1 used.2 environment (held-at old.store old.environment distance (Mono cell) found held)
       by (Poly scheme originals) found used = named_poly distance scheme originals found used environment
+
+-- The holes of such forms.
+
+nothing : {X : Type 0} (x : X) → Contains [] x → ⊥
+nothing x is = omega (arith, is.1)
+
+alone : {X : Type 0} (y x : X) → Contains (y ∷ []) x → y ≡ x
+alone y x is = by (Contains-push_cases [] y x is)
+  where
+    by : Contains [] x ⊎ (y ≡ x) → y ≡ x
+    by (inl own) = absurd (nothing x own)
+    by (inr same) = same
+
+-- what is marked is so by the form
+pub marked-as : (N : ℕ) (K : List Constant) (region : Region) (e : Core) (form : Form) (result : ℕ) (old new : Work N) (before after : HoleLog N)
+    → e.form ≡ form → IsMarked N K region (core e.node e.span form) result old new before after → IsMarked N K region e result old new before after
+marked-as N K region e form result old new before after is marked = subst (λ own. IsMarked N K region (core e.node e.span own) result old new before after) (sym is) marked
+
+-- a form in which no hole is written
+pub marked-none : (N : ℕ) (K : List Constant) (region : Region) (e : Core) (result : ℕ) (old new : Work N) (before : HoleLog N)
+    → ((decision : List Side) (mark : ℕ) → HoldsHole mark (core_at decision e).node (core_at decision e).form → ⊥)
+    → IsMarked N K region e result old new before before
+marked-none N K region e result old new before none = record {
+  asked = refl;
+  added = [];
+  met = sym (append-nil before.met);
+  cells = λ hole is. absurd (nothing hole is);
+  spaces = λ hole is. absurd (nothing hole is);
+  inside = λ hole decision is admits. absurd (nothing hole is);
+  here = λ decision of admits alive still places first last meant numbers_before numbered. record {
+    wanted = λ hole is within. absurd (nothing hole is);
+    reached = λ mark asked holds. absurd (none decision mark holds);
+  };
+}
+
+-- a hole
+pub marked-hole : (N : ℕ) (K : List Constant) (region : Region) (node : ℕ) (at : Span) (result : ℕ) (old new : Work N) (before after : HoleLog N)
+    → IsNew N (λ decision s type. IsWellFormed type) result old.store new.store → IsNoted node region result before after
+    → IsMarked N K region (core node at Hole) result old new before after
+marked-hole N K region node at result old new before after is_new is_noted = by is_noted.noted
+  where
+    by : (Contains before.asked node × (after.met ≡ before.met ++ record { node = node; within = region; cell = result } ∷ []))
+        ⊎ ((Contains before.asked node → ⊥) × (after.met ≡ before.met)) → IsMarked N K region (core node at Hole) result old new before after
+    by (inl (asked, is)) = record {
+      asked = is_noted.asked;
+      added = record { node = node; within = region; cell = result } ∷ [];
+      met = is;
+      spaces = λ hole own. subst (λ h. h.within.space ≡ region.space) (alone _ hole own) refl;
+      cells = λ hole own. subst (λ h. h.cell < cell_count new.store) (alone _ hole own) is_new.is_cell;
+      inside = λ hole decision own. subst (λ h. Admits h.within decision → Admits region decision) (alone _ hole own) (λ admits. admits);
+      here = λ decision of admits alive still places first last meant numbers_before numbered. record {
+        wanted = λ hole own. subst (λ h. Admits h.within decision → HoldsHole h.node node Hole × AddsAt (cell_count old.store) (cell_count new.store) (solutions_at old.store decision) (solutions_at new.store decision) result h.cell (TypesAtOf K h.node places (core node at Hole))) (alone _ hole own)
+            (λ within. (refl, hole_at K node places (cell_count old.store) (cell_count new.store) (solutions_at old.store decision) (solutions_at new.store decision) at result (is_new.adds decision of)));
+        reached = λ mark in_asked holds. (record { node = node; within = region; cell = result }, Contains-push [] _, admits, holds);
+      };
+    }
+    by (inr (none, is)) = record {
+      asked = is_noted.asked;
+      added = [];
+      met = is ∙ sym (append-nil before.met);
+      cells = λ hole own. absurd (nothing hole own);
+      spaces = λ hole own. absurd (nothing hole own);
+      inside = λ hole decision own admits. absurd (nothing hole own);
+      here = λ decision of admits alive still places first last meant numbers_before numbered. record {
+        wanted = λ hole own within. absurd (nothing hole own);
+        reached = λ mark in_asked holds. absurd (none (subst (Contains before.asked) (sym holds) in_asked));
+      };
+    }

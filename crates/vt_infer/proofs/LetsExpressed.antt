@@ -1,5 +1,6 @@
-use Rattle.std.proofs.Common.{◌≡◌, ◌↔◌, ℕ, suc, ◌<◌, ◌≤◌, List, [], ◌∷◌, ◌++◌, length, map, refl, ap, sym, subst, ◌∙◌, arith}
-use Rattle.std.specs.List.{All}
+use Rattle.std.proofs.Common.{◌≡◌, ◌↔◌, ◌⊎◌, inl, inr, ℕ, suc, ◌<◌, ◌≤◌, List, [], ◌∷◌, ◌++◌, length, map, refl, ap, sym, subst, ◌∙◌, arith}
+use Rattle.std.specs.List.{All, Contains}
+use Rattle.std.proofs.lemmas.List.Elements.{Contains-append_left, Contains-append_right, Contains-append_cases}
 use Rattle.vt_dec.specs.declared.side.Side.{Side}
 use Rattle.vt_dec.specs.declared.fate.Fate.{Fate}
 use Rattle.vt_dec.specs.declared.fate.Fate.TheVariants.{Alive, Dead}
@@ -29,6 +30,13 @@ use Rattle.vt_infer.specs.Inferring.{solutions_at, GoesOn, IsNew, IsEquated, IsG
 use Rattle.vt_infer.specs.declared.environment.Entry.{Entry}
 use Rattle.vt_infer.specs.declared.environment.Entry.TheVariants.{Mono, Poly}
 use Rattle.vt_infer.specs.declared.work.Work.{Work}
+use Rattle.vt_infer.specs.declared.holes.MetHole.{MetHole}
+use Rattle.vt_infer.specs.Meetings.{HoleLog, AreMetAt, IsMarked}
+use Rattle.vt_infer.specs.Wanted.{AddsAt, TypesAtOf}
+use Rattle.vt_rules.specs.TypingAt.{HoldsHole}
+use Rattle.vt_infer.proofs.MarkedSteps.{let_bound_at, let_body_at}
+use Rattle.vt_infer.proofs.HolesWithin.{holds-one}
+use Rattle.vt_infer.proofs.PartsExpressed.{both_added, added_cells, added_spaces, added_inside}
 use Rattle.vt_infer.proofs.FormSteps.{let_step, frozen_poly}
 use Rattle.vt_infer.proofs.NumberLemmas.{numbered-within, numbered-all}
 use Rattle.vt_infer.proofs.PlaceLemmas.{are_before-later}
@@ -102,6 +110,23 @@ module _ (N : ℕ) (K : List Constant) (table : IsTable K) (region : Region) (no
       (general : IsGeneralised N middle.store own middle.environment general_work.environment)
       (right : IsExpressed N K region body result general_work after)
       (last_store : new.store ≡ after.store) (last_pattern : new.pattern ≡ after.pattern) (environment : new.environment ≡ old.environment) where
+    -- what the environment means with the bound name, and that its nodes come before the body's
+    bound_meant : (decision : List Side) → IsOf N old.store.space decision → (places : List Place) (first last : ℕ)
+        → AreMeant K (cell_count old.store) (solutions_at old.store decision) decision old.environment places → AreBefore first places
+        → Adds (cell_count old.store) (cell_count middle.store) (solutions_at old.store decision) (solutions_at middle.store decision) own (TypesOf K places (core_at decision bound))
+        → AreMeant K (cell_count general_work.store) (solutions_at general_work.store decision) decision general_work.environment (Bound (core_at decision bound) ∷ places)
+    bound_meant decision of places first last meant before adds =
+        let A0 = solutions_at old.store decision in
+        let meant_old = subst (λ entries. AreMeant K (cell_count old.store) A0 decision entries places) (sym left.environment) meant in
+        subst (λ store. AreMeant K (cell_count store) (solutions_at store decision) decision general_work.environment (Bound (core_at decision bound) ∷ places)) (sym same_store)
+        (meant-bound middle.environment general_work.environment middle.store own general decision (of_same N region old.store middle.store decision left.goes_on.space of) places first last before
+        (core_at decision bound) (cell_count old.store) A0 left.goes_on.grows adds.old meant_old adds)
+
+    bound_earlier : (decision : List Side) (places : List Place) (first : ℕ) → AreBefore first places → IsNumberedCore first (core_at decision bound) node → AreBefore (suc node) (Bound (core_at decision bound) ∷ places)
+    bound_earlier decision places first before bound_numbered =
+        let within = numbered-within first (core_at decision bound).node (core_at decision bound).form node bound_numbered in
+        (bound_before first node (core_at decision bound) bound_numbered, are_before-later first (suc node) places (omega (arith, within.0, within.1)) before)
+
     -- the body's step, where the decision is still alive
     body_here : (decision : List Side) → IsOf N old.store.space decision → Admits region decision
         → (places : List Place) (first last : ℕ)
@@ -115,14 +140,10 @@ module _ (N : ℕ) (K : List Constant) (table : IsTable K) (region : Region) (no
         let A1 = solutions_at middle.store decision in
         let of_middle = of_same N region old.store middle.store decision left.goes_on.space of in
         let adds = subst (Steps K (cell_count old.store) (cell_count middle.store) A0 A1 own places (core_at decision bound) first node) alive step in
-        let meant_old = subst (λ entries. AreMeant K (cell_count old.store) A0 decision entries places) (sym left.environment) meant in
-        let meant_middle = meant-bound middle.environment general_work.environment middle.store own general decision of_middle places first last before
-        (core_at decision bound) (cell_count old.store) A0 left.goes_on.grows adds.old meant_old adds in
-        let within = numbered-within first (core_at decision bound).node (core_at decision bound).form node bound_numbered in
         right.here decision (subst (λ store. IsOf N store.space decision) (sym same_store) of_middle) admits (ap (λ fates. fate_at fates decision) same_pattern ∙ alive)
         (Bound (core_at decision bound) ∷ places) (suc node) last
-        (subst (λ store. AreMeant K (cell_count store) (solutions_at store decision) decision general_work.environment (Bound (core_at decision bound) ∷ places)) (sym same_store) meant_middle)
-        (bound_before first node (core_at decision bound) bound_numbered, are_before-later first (suc node) places (omega (arith, within.0, within.1)) before)
+        (bound_meant decision of places first last meant before adds)
+        (bound_earlier decision places first before bound_numbered)
         body_numbered
 
     let_goes_on : GoesOn N region old.store new.store old.pattern new.pattern
@@ -163,4 +184,97 @@ module _ (N : ℕ) (K : List Constant) (table : IsTable K) (region : Region) (no
           subst (λ store. Steps K (cell_count old.store) (cell_count store) (solutions_at old.store decision) (solutions_at store decision) result places (core node at (let_form (core_at decision bound) (core_at decision body))) first last (fate_at new.pattern decision)) (sym last_store)
           (subst (λ fates. Steps K (cell_count old.store) (cell_count after.store) (solutions_at old.store decision) (solutions_at after.store decision) result places (core node at (let_form (core_at decision bound) (core_at decision body))) first last (fate_at fates decision)) (sym last_pattern)
           (let_here decision of admits alive places first last meant before numbered.0 numbered.1));
+    }
+
+    -- the holes of its parts
+    module _ (log between_log later_log : HoleLog N) (lefts : IsMarked N K region bound own old middle log between_log) (rights : IsMarked N K region body result general_work after between_log later_log)
+        (decision : List Side) (of : IsOf N old.store.space decision) (admits : Admits region decision)
+        (alive : fate_at old.pattern decision ≡ Alive) (alive_after : fate_at after.pattern decision ≡ Alive) (places : List Place) (first last : ℕ)
+        (meant : AreMeant K (cell_count old.store) (solutions_at old.store decision) decision old.environment places) (before : AreBefore first places)
+        (bound_numbered : IsNumberedCore first (core_at decision bound) node) (body_numbered : IsNumberedCore (suc node) (core_at decision body) last) where
+      of_middle : IsOf N middle.store.space decision
+      of_middle = of_same N region old.store middle.store decision left.goes_on.space of
+
+      of_general : IsOf N general_work.store.space decision
+      of_general = subst (λ store. IsOf N store.space decision) (sym same_store) of_middle
+
+      alive_general : fate_at general_work.pattern decision ≡ Alive
+      alive_general = alive_before (fate_at general_work.pattern decision) (fate_at after.pattern decision) (right.goes_on.dead decision of_general) alive_after
+
+      alive_middle : fate_at middle.pattern decision ≡ Alive
+      alive_middle = sym (ap (λ fates. fate_at fates decision) same_pattern) ∙ alive_general
+
+      bound_step : Steps K (cell_count old.store) (cell_count middle.store) (solutions_at old.store decision) (solutions_at middle.store decision) own places (core_at decision bound) first node (fate_at middle.pattern decision)
+      bound_step = left.here decision of admits alive places first node meant before bound_numbered
+
+      step_left : Adds (cell_count old.store) (cell_count middle.store) (solutions_at old.store decision) (solutions_at middle.store decision) own (TypesOf K places (core_at decision bound))
+      step_left = subst (Steps K (cell_count old.store) (cell_count middle.store) (solutions_at old.store decision) (solutions_at middle.store decision) own places (core_at decision bound) first node) alive_middle bound_step
+
+      step_right : Adds (cell_count middle.store) (cell_count after.store) (solutions_at middle.store decision) (solutions_at after.store decision) result (TypesOf K (Bound (core_at decision bound) ∷ places) (core_at decision body))
+      step_right =
+          subst (λ store. Adds (cell_count store) (cell_count after.store) (solutions_at store decision) (solutions_at after.store decision) result (TypesOf K (Bound (core_at decision bound) ∷ places) (core_at decision body))) same_store
+          (subst (Steps K (cell_count general_work.store) (cell_count after.store) (solutions_at general_work.store decision) (solutions_at after.store decision) result (Bound (core_at decision bound) ∷ places) (core_at decision body) (suc node) last) alive_after
+          (body_here decision of admits places first last meant before bound_numbered body_numbered bound_step alive_middle))
+
+      met_left : AreMetAt K (cell_count old.store) (cell_count middle.store) (solutions_at old.store decision) (solutions_at middle.store decision) own places (core_at decision bound) decision log.asked lefts.added
+      met_left = lefts.here decision of admits alive alive_middle places first node meant before bound_numbered
+
+      met_right : AreMetAt K (cell_count middle.store) (cell_count after.store) (solutions_at middle.store decision) (solutions_at after.store decision) result (Bound (core_at decision bound) ∷ places) (core_at decision body) decision between_log.asked rights.added
+      met_right =
+          subst (λ store. AreMetAt K (cell_count store) (cell_count after.store) (solutions_at store decision) (solutions_at after.store decision) result (Bound (core_at decision bound) ∷ places) (core_at decision body) decision between_log.asked rights.added) same_store
+          (rights.here decision of_general admits alive_general alive_after (Bound (core_at decision bound) ∷ places) (suc node) last
+          (bound_meant decision of places first last meant before step_left) (bound_earlier decision places first before bound_numbered) body_numbered)
+
+      apart : (mark : ℕ) → HoldsHole mark (core_at decision bound).node (core_at decision bound).form → HoldsHole mark (core_at decision body).node (core_at decision body).form → ⊥
+      apart mark = holds-one mark first (core_at decision bound) node (suc node) (core_at decision body) last (omega arith) bound_numbered body_numbered
+
+      have : HaveCells (cell_count old.store) places
+      have = meant-cells K (cell_count old.store) (solutions_at old.store decision) decision old.environment places meant
+
+      in_one : (hole : MetHole N) → Contains lefts.added hole ⊎ Contains rights.added hole → Admits hole.within decision
+          → HoldsHole hole.node node (let_form (core_at decision bound) (core_at decision body))
+          × AddsAt (cell_count old.store) (cell_count after.store) (solutions_at old.store decision) (solutions_at after.store decision) result hole.cell (TypesAtOf K hole.node places (core node at (let_form (core_at decision bound) (core_at decision body))))
+      in_one hole (inl is) within =
+          let got = met_left.wanted hole is within in (
+            inl got.0,
+            let_bound_at K hole.node places node at (core_at decision bound) (core_at decision body) (cell_count old.store) (cell_count middle.store) (cell_count after.store)
+                (solutions_at old.store decision) (solutions_at middle.store decision) (solutions_at after.store decision) own result hole.cell have step_left step_right (apart hole.node got.0) got.1,
+          )
+      in_one hole (inr is) within =
+          let got = met_right.wanted hole is within in (
+            inr got.0,
+            let_body_at K hole.node places node at (core_at decision bound) (core_at decision body) (cell_count old.store) (cell_count middle.store) (cell_count after.store)
+                (solutions_at old.store decision) (solutions_at middle.store decision) (solutions_at after.store decision) own result hole.cell have step_left step_right (λ there. apart hole.node there got.0) got.1,
+          )
+
+      reach : (mark : ℕ) → Contains log.asked mark → HoldsHole mark (core_at decision bound).node (core_at decision bound).form ⊎ HoldsHole mark (core_at decision body).node (core_at decision body).form
+          → (hole : MetHole N) × Contains (lefts.added ++ rights.added) hole × Admits hole.within decision × (hole.node ≡ mark)
+      reach mark asked (inl holds) =
+          let (hole, is, within, same) = met_left.reached mark asked holds in
+          (hole, Contains-append_left lefts.added rights.added hole is, within, same)
+      reach mark asked (inr holds) =
+          let (hole, is, within, same) = met_right.reached mark (subst (λ asked. Contains asked mark) (sym lefts.asked) asked) holds in
+          (hole, Contains-append_right lefts.added rights.added hole is, within, same)
+
+      let_met : AreMetAt K (cell_count old.store) (cell_count after.store) (solutions_at old.store decision) (solutions_at after.store decision) result places (core node at (let_form (core_at decision bound) (core_at decision body))) decision log.asked (lefts.added ++ rights.added)
+      let_met = record {
+        wanted = λ hole is within. in_one hole (Contains-append_cases lefts.added rights.added hole is) within;
+        reached = reach;
+      }
+
+    pub marked-let : (log between_log later_log : HoleLog N) → IsMarked N K region bound own old middle log between_log → IsMarked N K region body result general_work after between_log later_log
+        → IsMarked N K region (core node at (let_form bound body)) result old new log later_log
+    marked-let log between_log later_log lefts rights = record {
+      asked = rights.asked ∙ lefts.asked;
+      added = lefts.added ++ rights.added;
+      met = both_added log between_log later_log lefts.added rights.added lefts.met rights.met;
+      cells = λ hole is.
+          subst (λ store. hole.cell < cell_count store) (sym last_store)
+          (added_cells lefts.added rights.added (cell_count middle.store) (cell_count after.store) (cell_count after.store)
+          (subst (λ store. cell_count store ≤ cell_count after.store) same_store right.goes_on.grows) (omega arith) lefts.cells rights.cells hole is);
+      spaces = λ hole is. added_spaces lefts.added rights.added region.space lefts.spaces rights.spaces hole is;
+      inside = λ hole decision is within. added_inside lefts.added rights.added region lefts.inside rights.inside hole decision is within;
+      here = λ decision of admits alive still places first last meant before numbered.
+          subst (λ store. AreMetAt K (cell_count old.store) (cell_count store) (solutions_at old.store decision) (solutions_at store decision) result places (core node at (let_form (core_at decision bound) (core_at decision body))) decision log.asked (lefts.added ++ rights.added)) (sym last_store)
+          (let_met log between_log later_log lefts rights decision of admits alive (sym (ap (λ fates. fate_at fates decision) last_pattern) ∙ still) places first last meant before numbered.0 numbered.1);
     }

@@ -9,6 +9,13 @@ pub mod LetStep
 pub mod LetRecSteps
 pub mod FormSteps
 pub mod MarkedSteps
+pub mod HolesWithin
+pub mod NestedHoles
+pub mod GatheringLemmas
+pub mod FoundLemmas
+pub mod NotedHoles
+pub mod MixingLemmas
+pub mod LeafCellLemmas
 pub mod Extending
 pub mod StoreSteps
 pub mod GoingOn

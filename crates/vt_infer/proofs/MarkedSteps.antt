@@ -41,6 +41,30 @@ at-keeps n m l A B C result leaf P grows is_cell h k = record {
       (r, c, agree-then n m s t r grows agree later, later result is_cell ∙ result_is, later leaf h.is_leaf ∙ leaf_is);
 }
 
+-- another result of the same type
+pub at-result : (n m l : ℕ) (A B C : Solutions) (result other leaf : ℕ) (P : (ℕ → Plain) → Plain → Plain → Type 0)
+    → n ≤ m → AddsAt n m A B result leaf P → Adds m l B C other (λ s type. type ≡ s result) → AddsAt n l A C other leaf P
+at-result n m l A B C result other leaf P grows h k = record {
+  is_leaf = omega (arith, h.is_leaf, k.grows);
+  related = λ s c. rw (k.related s c) (h.related s (k.old s c));
+  taken = λ s type wanted a p.
+      let (t, b, agree, result_is, leaf_is) = h.taken s type wanted a p in
+      let (r, c, later, other_is) = k.taken t type b (sym result_is) in
+      (r, c, agree-then n m s t r grows agree later, other_is, later leaf h.is_leaf ∙ leaf_is);
+}
+
+-- what keeps the solutions comes before
+pub keeps-at : (K : List Constant) (mark : ℕ) (places : List Place) (e : Core) (n m l : ℕ) (A B C : Solutions) (result leaf : ℕ) → HaveCells n places
+    → Keeps n m A B → AddsAt m l B C result leaf (TypesAtOf K mark places e) → AddsAt n l A C result leaf (TypesAtOf K mark places e)
+keeps-at K mark places e n m l A B C result leaf have k h = record {
+  is_leaf = h.is_leaf;
+  related = h.related;
+  taken = λ s type wanted a d.
+      let (t, b, agree) = k.again s a in
+      let (r, c, later, result_is, leaf_is) = h.taken t type wanted b (rw (env_at-agrees n s t places have agree) d) in
+      (r, c, agree-then n m s t r k.grows agree later, result_is, leaf_is);
+}
+
 module _ (K : List Constant) (mark : ℕ) (places : List Place) where
   -- the hole itself
   pub hole_at : (n m : ℕ) (A B : Solutions) (at : Span) (result : ℕ) → Adds n m A B result (λ s type. IsWellFormed type)

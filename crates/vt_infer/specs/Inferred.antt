@@ -6,21 +6,23 @@ use Rattle.vt_dec.specs.declared.fate.Fate.{Fate}
 use Rattle.vt_dec.specs.declared.fate.Fate.TheVariants.{Alive, Dead}
 use Rattle.vt_syntax.specs.declared.core_expr.Core.{Core}
 use Rattle.vt_syntax.specs.declared.core_program.CoreProgram.{CoreProgram}
+use Rattle.vt_syntax.specs.declared.leaf.Leaf.{Leaf}
 use Rattle.vt_syntax.specs.Checking.{numbers_of, IsGreatest}
 use Rattle.vt_syntax.specs.Programs.{whole}
 use Rattle.vt_syntax.specs.Selection.{selected_core_program}
 use Rattle.vt_type.specs.declared.plain.Plain.{Plain}
 use Rattle.vt_type.specs.Canonical.{IsCanonical}
-use Rattle.vt_type.specs.Constants.{Constant}
+use Rattle.vt_type.specs.Constants.{Constant, pair}
 use Rattle.vt_store.specs.Patterns.{fate_at, IsShown}
-use Rattle.vt_store.specs.Solutions.{ReadsAs}
+use Rattle.vt_store.specs.Solutions.{ReadsAs, PairReadsAs}
 use Rattle.vt_store.specs.Stores.{cell_count, ends_at}
 use Rattle.vt_store.specs.Writes.{IsOf}
 use Rattle.vt_scheme.specs.declared.scheme.Scheme.{Scheme}
 use Rattle.vt_scheme.specs.Schemes.{AreCells}
-use Rattle.vt_rules.specs.Principal.{IsTyped, Principal}
+use Rattle.vt_rules.specs.Principal.{IsTyped, Principal, PrincipalAt}
 use Rattle.vt_rules.specs.Failing.{FirstFailing}
 use Rattle.vt_rules.specs.Meaning.{prefix}
+use Rattle.vt_rules.specs.TypingAt.{HoldsHole}
 use Rattle.vt_infer.specs.declared.typed.Typed.{Typed}
 
 -- What inference finds out about a program: the fate of each decision, and the types of each part at the decisions
@@ -58,3 +60,14 @@ pub record IsInferred (N : ℕ) (K : List Constant) (core : CoreProgram) (space 
   pub parts : (part : ℕ) (scheme : Scheme N) (mark : ℕ) (decision : List Side)
       → slice_get typed.schemes part ≡ Some scheme → slice_get typed.marks part ≡ Some mark → IsOf N space decision
       → IsPartAt K core part decision scheme mark (fate_at typed.pattern decision)
+
+-- The cells of the leaves that were handed in. Where a decision is alive, and the program that it selects has a hole with the number of a
+-- leaf, the leaf's cell and the main cell read as the principal pair of that hole.
+pub record AreLeafCells (N : ℕ) (K : List Constant) (core : CoreProgram) (leaves : List Leaf) (space : Space) (typed : Typed N) : Type 0 where
+  pub count : length typed.leaf_cells ≡ length leaves
+  pub cells : All (λ cell. cell < cell_count typed.store) typed.leaf_cells
+  pub pairs : (place cell : ℕ) (leaf : Leaf) (decision : List Side)
+      → slice_get leaves place ≡ Some leaf → slice_get typed.leaf_cells place ≡ Some cell
+      → IsOf N space decision → fate_at typed.pattern decision ≡ Alive → HoldsHole leaf.node (chosen decision core).node (chosen decision core).form
+      → (wanted type : Plain) → PairReadsAs (cell_count typed.store) (ends_at typed.store decision) cell typed.main wanted type
+      ↔ (PrincipalAt K leaf.node (chosen decision core) wanted type × IsCanonical (pair wanted type))

@@ -4,8 +4,11 @@ pub mod Steps
 pub mod Wanted
 pub mod Environments
 pub mod Inferring
+pub mod Meetings
 pub mod Building
 pub mod Equating
 pub mod Inferred
 pub mod Definitions
 pub mod Parts
+pub mod Gathering
+pub mod Mixing

@@ -136,13 +136,14 @@ pub record IsAdded (N : ℕ) (K : List Constant) (region : Region) (def : CoreDe
   pub marks_are : later ≡ marks ++ def.node ∷ []
 
 -- What was found out, with the schemes that the environment holds at the end.
-abbrev pub typed_of : {N : ℕ} → Work N → List ℕ → ℕ → Typed N
-typed_of work marks main = record {
+abbrev pub typed_of : {N : ℕ} → Work N → (marks : List ℕ) (main : ℕ) (leaf_cells : List ℕ) → Typed N
+typed_of work marks main leaf_cells = record {
   store = work.store;
   pattern = work.pattern;
   main = main;
   schemes = schemes_of work.environment;
   marks = marks;
+  leaf_cells = leaf_cells;
 }
 
 -- Nothing is known yet.

@@ -1,10 +1,12 @@
 //! The definitions of a program, one after the other.
 ghost use Rattle.std.specs.Prelude.{◌≡◌, true, length, IfOk, OnOk};
 ghost use Rattle.vt_type.specs.Constants.{IsTable};
-ghost use Rattle.vt_infer.specs.Parts.{HasSolutions, IsDefined, IsDefinable, IsAdded, IsReached, Covers};
+ghost use Rattle.vt_infer.specs.Gathering.{AreGathered, IsAddedWith, IsLookedOver};
+ghost use Rattle.vt_infer.specs.Parts.{HasSolutions, IsDefinable, IsReached, Covers};
 
 use crate::environment::Entry;
 use crate::expression::expression;
+use crate::holes::Holes;
 use crate::joining::equate;
 use crate::naming::generalise;
 use crate::steps::open_cell;
@@ -23,15 +25,19 @@ pub(crate) fn definitions<const N: usize>(
     constants: &Constants,
     work: &mut Work<N>,
     marks: &mut Marks,
+    holes: &mut Holes<N>,
     within: &Context<N>,
 ) -> Result<(), AllocError>
     requires table { IsTable constants.now }
     requires covers { Covers N within.now within.now.space }
     requires reached { IsReached N constants.now core.now within.now.space 0 work.old marks.old }
-    ensures { OnOk result (IsReached N constants.now core.now within.now.space (length core.now.defs) work.new marks.new) }
+    requires gathered { AreGathered N constants.now core.now within.now.space 0 work.old holes.old }
+    ensures reached { OnOk result (IsReached N constants.now core.now within.now.space (length core.now.defs) work.new marks.new) }
+    ensures gathered { OnOk result (AreGathered N constants.now core.now within.now.space (length core.now.defs) work.new holes.new) }
+    ensures asked { OnOk result (holes.new.asked ≡ holes.old.asked) }
 {
     for def in core.defs.as_slice() {
-        add(def, constants, work, marks, within)?;
+        add(def, constants, work, marks, holes, within)?;
     }
     Ok(())
 }
@@ -42,13 +48,14 @@ fn add<const N: usize>(
     constants: &Constants,
     work: &mut Work<N>,
     marks: &mut Marks,
+    holes: &mut Holes<N>,
     within: &Context<N>,
 ) -> Result<(), AllocError>
     requires { IsDefinable N constants.now within.now def.now work.old }
-    ensures { OnOk result (IsAdded N constants.now within.now def.now work.old work.new marks.old marks.new) }
+    ensures { OnOk result (IsAddedWith N constants.now within.now def.now work.old work.new marks.old marks.new holes.old holes.new) }
 {
     solvable(&work.store);
-    let root = definition(def, constants, work, within)?;
+    let root = definition(def, constants, work, holes, within)?;
     solvable(&work.store);
     generalise(work, root)?;
     marks.push(def.node)?;
@@ -61,16 +68,17 @@ fn definition<const N: usize>(
     def: &CoreDef,
     constants: &Constants,
     work: &mut Work<N>,
+    holes: &mut Holes<N>,
     within: &Context<N>,
 ) -> Result<CellId, AllocError>
     requires { IsDefinable N constants.now within.now def.now work.old }
-    ensures { IfOk result (λ cell. IsDefined N constants.now within.now def.now cell work.old work.new) }
+    ensures { IfOk result (λ cell. IsLookedOver N constants.now within.now def.now cell work.old work.new holes.old holes.new) }
 {
     if def.recursive {
-        let cell = looped(def, constants, work, within)?;
+        let cell = looped(def, constants, work, holes, within)?;
         return Ok(cell);
     }
-    let cell = expression(&def.body, constants, work, within)?;
+    let cell = expression(&def.body, constants, work, holes, within)?;
     Ok(cell)
 }
 
@@ -79,15 +87,16 @@ fn looped<const N: usize>(
     def: &CoreDef,
     constants: &Constants,
     work: &mut Work<N>,
+    holes: &mut Holes<N>,
     within: &Context<N>,
 ) -> Result<CellId, AllocError>
     requires recursive { def.now.recursive ≡ true }
     requires definable { IsDefinable N constants.now within.now def.now work.old }
-    ensures { IfOk result (λ cell. IsDefined N constants.now within.now def.now cell work.old work.new) }
+    ensures { IfOk result (λ cell. IsLookedOver N constants.now within.now def.now cell work.old work.new holes.old holes.new) }
 {
     let parameter = open_cell(&mut work.store)?;
     work.environment.push(Entry::Mono(parameter))?;
-    let own = expression(&def.body, constants, work, within)?;
+    let own = expression(&def.body, constants, work, holes, within)?;
     work.environment.pop();
     equate(work, within, own, parameter, def.node)?;
     Ok(parameter)

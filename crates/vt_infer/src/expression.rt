@@ -1,11 +1,15 @@
 //! The types of an expression.
 ghost use Rattle.std.specs.Prelude.{ℕ, ◌≡◌, List, IfOk};
 ghost use Rattle.vt_lex.specs.declared.span.Span.{Span};
+ghost use Rattle.vt_syntax.specs.declared.core_expr.Form.{Hole};
+ghost use Rattle.vt_type.specs.Constants.{Constant, IsTable};
 ghost use Rattle.vt_syntax.specs.CoreTrees.{core, fun_form, app_form, let_form, let_rec_form, choice_form};
-ghost use Rattle.vt_infer.specs.Inferring.{IsReady, IsExpressed};
+ghost use Rattle.vt_infer.specs.Inferring.{IsReady};
+ghost use Rattle.vt_infer.specs.Meetings.{IsLookedAt};
 
 use crate::constant::constant_cell;
 use crate::environment::Entry;
+use crate::holes::Holes;
 use crate::joining::{applied, equate};
 use crate::naming::{generalise, named};
 use crate::steps::{choice_cell, function_cell, literal_cell, open_cell};
@@ -23,12 +27,13 @@ pub(crate) fn expression<const N: usize>(
     core: &Core,
     constants: &Constants,
     work: &mut Work<N>,
+    holes: &mut Holes<N>,
     within: &Context<N>,
 ) -> Result<CellId, AllocError>
     requires { IsReady N constants.now within.now core.now.form work.old }
-    ensures { IfOk result (λ cell. IsExpressed N constants.now within.now core.now cell work.old work.new) }
+    ensures { IfOk result (λ cell. IsLookedAt N constants.now within.now core.now cell work.old work.new holes.old holes.new) }
 {
-    typed::<(), N>(core, constants, work, within)
+    typed::<(), N>(core, constants, work, holes, within)
 }
 
 // `P` stands for nothing. The prover takes a condition of functions that call one another only where a type
@@ -38,35 +43,66 @@ fn typed<P, const N: usize>(
     core: &Core,
     constants: &Constants,
     work: &mut Work<N>,
+    holes: &mut Holes<N>,
     within: &Context<N>,
 ) -> Result<CellId, AllocError>
     requires { IsReady N constants.now within.now core.now.form work.old }
-    ensures { IfOk result (λ cell. IsExpressed N constants.now within.now core.now cell work.old work.new) }
+    ensures { IfOk result (λ cell. IsLookedAt N constants.now within.now core.now cell work.old work.new holes.old holes.new) }
 {
     let node = core.node;
     match &core.form {
         Form::Literal(literal) => literal_cell(&mut work.store, *literal),
         Form::Name(distance) => named(work, within, *distance, node),
         Form::Const(id) => constant_cell(constants, &mut work.store, *id),
-        Form::Hole => open_cell(&mut work.store),
-        Form::Fun(body) => function::<P, N>(body.get(), constants, work, within),
+        Form::Hole => hole(work, holes, within, node),
+        Form::Fun(body) => function::<P, N>(body.get(), constants, work, holes, within),
         Form::App(function, argument) => application::<P, N>(
             function.get(),
             argument.get(),
             node,
             constants,
             work,
+            holes,
             within,
         ),
-        Form::Let(bound, body) => let_in::<P, N>(bound.get(), body.get(), constants, work, within),
+        Form::Let(bound, body) => let_in::<P, N>(
+            bound.get(),
+            body.get(),
+            constants,
+            work,
+            holes,
+            within,
+        ),
         Form::LetRec(_, _, bound, body) => {
-            let_rec::<P, N>(bound.get(), body.get(), node, constants, work, within)
+            let_rec::<P, N>(
+                bound.get(),
+                body.get(),
+                node,
+                constants,
+                work,
+                holes,
+                within,
+            )
         }
         Form::Choice(dim, left, right) => {
             let dim = *dim;
-            alternatives::<P, N>(dim, left.get(), right.get(), constants, work, within)
+            alternatives::<P, N>(dim, left.get(), right.get(), constants, work, holes, within)
         }
     }
+}
+
+// A hole has any type. It is noted, since somebody may ask for its type.
+fn hole<const N: usize>(
+    work: &mut Work<N>,
+    holes: &mut Holes<N>,
+    within: &Context<N>,
+    node: NodeId,
+) -> Result<CellId, AllocError>
+    ensures { (K : List Constant) (at : Span) → IsTable K → IfOk result (λ cell. IsLookedAt N K within.now (core node at Hole) cell work.old work.new holes.old holes.new) }
+{
+    let cell = open_cell(&mut work.store)?;
+    holes.note(node, within, cell)?;
+    Ok(cell)
 }
 
 // `fun`: its parameter is a new cell.
@@ -75,14 +111,15 @@ fn function<P, const N: usize>(
     body: &Core,
     constants: &Constants,
     work: &mut Work<N>,
+    holes: &mut Holes<N>,
     within: &Context<N>,
 ) -> Result<CellId, AllocError>
     requires { IsReady N constants.now within.now (fun_form body.now) work.old }
-    ensures { (node : ℕ) (at : Span) → IfOk result (λ cell. IsExpressed N constants.now within.now (core node at (fun_form body.now)) cell work.old work.new) }
+    ensures { (node : ℕ) (at : Span) → IfOk result (λ cell. IsLookedAt N constants.now within.now (core node at (fun_form body.now)) cell work.old work.new holes.old holes.new) }
 {
     let parameter = open_cell(&mut work.store)?;
     work.environment.push(Entry::Mono(parameter))?;
-    let to = typed::<P, N>(body, constants, work, within)?;
+    let to = typed::<P, N>(body, constants, work, holes, within)?;
     work.environment.pop();
     function_cell(&mut work.store, parameter, to)
 }
@@ -95,13 +132,14 @@ fn application<P, const N: usize>(
     node: NodeId,
     constants: &Constants,
     work: &mut Work<N>,
+    holes: &mut Holes<N>,
     within: &Context<N>,
 ) -> Result<CellId, AllocError>
     requires { IsReady N constants.now within.now (app_form function.now argument.now) work.old }
-    ensures { (at : Span) → IfOk result (λ cell. IsExpressed N constants.now within.now (core node at (app_form function.now argument.now)) cell work.old work.new) }
+    ensures { (at : Span) → IfOk result (λ cell. IsLookedAt N constants.now within.now (core node at (app_form function.now argument.now)) cell work.old work.new holes.old holes.new) }
 {
-    let one = typed::<P, N>(function, constants, work, within)?;
-    let other = typed::<P, N>(argument, constants, work, within)?;
+    let one = typed::<P, N>(function, constants, work, holes, within)?;
+    let other = typed::<P, N>(argument, constants, work, holes, within)?;
     applied(work, within, one, other, node)
 }
 
@@ -112,14 +150,15 @@ fn let_in<P, const N: usize>(
     body: &Core,
     constants: &Constants,
     work: &mut Work<N>,
+    holes: &mut Holes<N>,
     within: &Context<N>,
 ) -> Result<CellId, AllocError>
     requires { IsReady N constants.now within.now (let_form bound.now body.now) work.old }
-    ensures { (node : ℕ) (at : Span) → IfOk result (λ cell. IsExpressed N constants.now within.now (core node at (let_form bound.now body.now)) cell work.old work.new) }
+    ensures { (node : ℕ) (at : Span) → IfOk result (λ cell. IsLookedAt N constants.now within.now (core node at (let_form bound.now body.now)) cell work.old work.new holes.old holes.new) }
 {
-    let root = typed::<P, N>(bound, constants, work, within)?;
+    let root = typed::<P, N>(bound, constants, work, holes, within)?;
     generalise(work, root)?;
-    let cell = typed::<P, N>(body, constants, work, within)?;
+    let cell = typed::<P, N>(body, constants, work, holes, within)?;
     work.environment.pop();
     Ok(cell)
 }
@@ -132,18 +171,19 @@ fn let_rec<P, const N: usize>(
     node: NodeId,
     constants: &Constants,
     work: &mut Work<N>,
+    holes: &mut Holes<N>,
     within: &Context<N>,
 ) -> Result<CellId, AllocError>
     requires { (name : List ℕ) (name_at : Span) → IsReady N constants.now within.now (let_rec_form name name_at bound.now body.now) work.old }
-    ensures { (name : List ℕ) (name_at : Span) (at : Span) → IfOk result (λ cell. IsExpressed N constants.now within.now (core node at (let_rec_form name name_at bound.now body.now)) cell work.old work.new) }
+    ensures { (name : List ℕ) (name_at : Span) (at : Span) → IfOk result (λ cell. IsLookedAt N constants.now within.now (core node at (let_rec_form name name_at bound.now body.now)) cell work.old work.new holes.old holes.new) }
 {
     let parameter = open_cell(&mut work.store)?;
     work.environment.push(Entry::Mono(parameter))?;
-    let own = typed::<P, N>(bound, constants, work, within)?;
+    let own = typed::<P, N>(bound, constants, work, holes, within)?;
     work.environment.pop();
     equate(work, within, own, parameter, node)?;
     generalise(work, parameter)?;
-    let cell = typed::<P, N>(body, constants, work, within)?;
+    let cell = typed::<P, N>(body, constants, work, holes, within)?;
     work.environment.pop();
     Ok(cell)
 }
@@ -156,18 +196,19 @@ fn alternatives<P, const N: usize>(
     right: &Core,
     constants: &Constants,
     work: &mut Work<N>,
+    holes: &mut Holes<N>,
     within: &Context<N>,
 ) -> Result<CellId, AllocError>
     requires { IsReady N constants.now within.now (choice_form dim left.now right.now) work.old }
-    ensures { (node : ℕ) (at : Span) → IfOk result (λ cell. IsExpressed N constants.now within.now (core node at (choice_form dim left.now right.now)) cell work.old work.new) }
+    ensures { (node : ℕ) (at : Span) → IfOk result (λ cell. IsLookedAt N constants.now within.now (core node at (choice_form dim left.now right.now)) cell work.old work.new holes.old holes.new) }
 {
     let Some(on_left) = within.with(dim, Side::Left) else {
-        return typed::<P, N>(right, constants, work, within);
+        return typed::<P, N>(right, constants, work, holes, within);
     };
-    let one = typed::<P, N>(left, constants, work, &on_left)?;
+    let one = typed::<P, N>(left, constants, work, holes, &on_left)?;
     let Some(on_right) = within.with(dim, Side::Right) else {
         return Ok(one);
     };
-    let other = typed::<P, N>(right, constants, work, &on_right)?;
+    let other = typed::<P, N>(right, constants, work, holes, &on_right)?;
     choice_cell(&mut work.store, dim, one, other)
 }

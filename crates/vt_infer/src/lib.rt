@@ -11,8 +11,10 @@ mod constant;
 mod definitions;
 mod environment;
 mod expression;
+mod holes;
 mod inference;
 mod joining;
+mod leaf_cells;
 mod naming;
 mod steps;
 mod typed;
@@ -20,5 +22,5 @@ mod variables;
 mod work;
 
 pub use inference::infer;
-pub use typed::{Marks, Schemes, Typed};
+pub use typed::{LeafCells, Marks, Schemes, Typed};
 pub use vt_rules::{laws, witnesses};

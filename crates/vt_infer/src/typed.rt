@@ -16,6 +16,8 @@ pub struct Typed<const N: usize> {
     pub schemes: Schemes<N>,
     /// Up to which node a decision has to be alive for the part to have a type.
     pub marks: Marks,
+    /// A cell for each leaf that was handed in.
+    pub leaf_cells: LeafCells,
 }
 
 /// Schemes in order.
@@ -88,5 +90,35 @@ impl Marks {
         ensures { result.now ≡ self.now }
     {
         self.marks.as_slice()
+    }
+}
+
+/// Cells in the order of the leaves that they are of.
+#[derive(Debug, Drop)]
+pub struct LeafCells {
+    cells: Vec<CellId>,
+}
+
+impl Model for LeafCells {
+    ghost use Rattle.std.specs.Prelude.{List, ℕ};
+
+    ghost Value = { List ℕ };
+
+    ghost view = { λ l. l.cells.items };
+}
+
+impl LeafCells {
+    ghost use Rattle.std.specs.Prelude.{◌≡◌};
+
+    pub fn new(cells: Vec<CellId>) -> LeafCells
+        ensures { result ≡ cells.items }
+    {
+        LeafCells { cells }
+    }
+
+    pub fn as_slice(&self) -> &[CellId]
+        ensures { result.now ≡ self.now }
+    {
+        self.cells.as_slice()
     }
 }

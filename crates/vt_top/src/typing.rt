@@ -16,7 +16,7 @@ use vt_file::Source;
 use vt_infer::{Typed, infer};
 use vt_lex::Word;
 use vt_norm::{OutFault, read_out};
-use vt_syntax::CoreProgram;
+use vt_syntax::{CoreProgram, Leaves};
 use vt_type::VType;
 
 // The most nodes that a printed type may have.
@@ -43,7 +43,11 @@ pub(crate) fn main_type(alloc: Global, source: &Source<'_>) -> Result<VType, Typ
     ensures fault { IfErr result (IsTypeFault source.now.resolved.core) }
 {
     let core = &source.resolved.core;
-    match infer(alloc, core, &source.constants, Space::All) {
+    // No leaf is asked about.
+    let leaves = Leaves::new(Vec::new(alloc));
+    let typed = infer(alloc, core, &source.constants, &leaves, Space::All);
+    drop(leaves);
+    match typed {
         Ok(typed) => parts_type(alloc, core, &typed),
         Err(AllocError) => Err(TypeFault::Memory),
     }

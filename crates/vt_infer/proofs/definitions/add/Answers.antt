@@ -5,7 +5,7 @@ use Rattle.vt_infer.proofs.definitions.add.Goals as goal
 
 pub generalise-requires : goal.generalise-requires
 generalise-requires g c =
-    let defined = c.in_ok-root.ensures in (
+    let defined = c.in_ok-root.ensures.defined in (
       search rules,
       (
         defined.is_cell,
@@ -15,13 +15,16 @@ generalise-requires g c =
 
 pub returns : goal.returns
 returns g c = record {
-  between = c.definition.new.work;
-  root = c.in_ok-root.root;
-  defined = c.in_ok-root.ensures;
-  solvable = c.solvable.ensures;
-  solvable_after = c.solvable-2.ensures;
-  store = c.in_ok-generalise.ensures.store;
-  pattern = c.in_ok-generalise.ensures.pattern;
-  generalised = c.in_ok-generalise.ensures.entry;
-  marks_are = c.in_ok-push.ensures;
+  added = record {
+    between = c.definition.new.work;
+    root = c.in_ok-root.root;
+    defined = c.in_ok-root.ensures.defined;
+    solvable = c.solvable.ensures;
+    solvable_after = c.solvable-2.ensures;
+    store = c.in_ok-generalise.ensures.store;
+    pattern = c.in_ok-generalise.ensures.pattern;
+    generalised = c.in_ok-generalise.ensures.entry;
+    marks_are = c.in_ok-push.ensures;
+  };
+  marked = c.in_ok-root.ensures.marked;
 }
