@@ -1,3 +1,6 @@
 mod Indexing
 mod Ranks
 mod VaryingForms
+mod VariedPrograms
+mod Deciding
+mod AnswerLemmas

@@ -5,9 +5,15 @@
 //! program is says `vt_syntax`; the order is in `specs/Ranking.antt`.
 #![tactic(auto)]
 
+mod answering;
+mod fault;
 mod leaf_numbers;
 mod ranking;
+mod typing;
 mod varying;
 
+pub use answering::{MOST_NODES, change_of};
+pub use fault::ChangeFault;
 pub use ranking::rank;
+pub use typing::{MOST_LEAVES, Varied, candidates};
 pub use varying::vary_leaves;

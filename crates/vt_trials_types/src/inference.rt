@@ -9,7 +9,7 @@ use vt_dec::{Context, Decision, Fate, NodeId, Space};
 use vt_infer::{Typed, infer};
 use vt_lex::Span;
 use vt_store::{CellId, Pattern, Store};
-use vt_syntax::{Core, CoreDefs, CoreProgram, Form, Lit, replace_leaf};
+use vt_syntax::{Core, CoreDefs, CoreProgram, Form, Leaves, Lit, replace_leaf};
 use vt_type::{ConstId, Constants, Head};
 use vt_unify::unify;
 
@@ -40,7 +40,8 @@ fn holed_sum(alloc: Global) -> Result<Typed<1>, AllocError>
     let constants = Constants::core(alloc)?;
     let program = sum(alloc)?;
     let program = replace_leaf(alloc, &program, NodeId(4))?;
-    let typed = infer(alloc, &program, &constants, Space::All)?;
+    let leaves = Leaves::new(Vec::new(alloc));
+    let typed = infer(alloc, &program, &constants, &leaves, Space::All)?;
     Ok(typed)
 }
 
