@@ -6,3 +6,4 @@ pub mod Budgets
 pub mod Answers
 pub mod Regions
 pub mod Renaming
+pub mod Parts

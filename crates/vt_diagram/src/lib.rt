@@ -17,6 +17,7 @@ mod entries;
 mod entry;
 mod ids;
 mod operation;
+mod parting;
 mod question;
 mod region;
 mod renamed;
@@ -26,4 +27,5 @@ mod table;
 
 pub use entry::Entry;
 pub use ids::DiagramId;
+pub use parting::Cut;
 pub use table::Table;
