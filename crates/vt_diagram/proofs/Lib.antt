@@ -11,3 +11,4 @@ pub mod Remembering
 pub mod Answering
 pub mod Contexts
 pub mod Renamings
+pub mod Partition

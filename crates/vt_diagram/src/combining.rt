@@ -91,10 +91,10 @@ impl<const N: usize> Table<N> {
         if let Some(0) = budget {
             return Split::Values(self.entries.first(one), self.entries.first(other));
         }
-        self.parts(one, other)
+        self.sides(one, other)
     }
 
-    fn parts(&self, one: DiagramId, other: DiagramId) -> Split
+    fn sides(&self, one: DiagramId, other: DiagramId) -> Split
         requires { Holds self.now one × Holds self.now other }
         ensures { IsSplit (64 * N) self.now None one other result }
     {

@@ -27,5 +27,5 @@ mod table;
 
 pub use entry::Entry;
 pub use ids::DiagramId;
-pub use parting::Cut;
+pub use parting::{Cut, Part};
 pub use table::Table;
