@@ -1,4 +1,4 @@
-use Rattle.std.proofs.Common.{◌≡◌, ◌⊎◌, ◌↔◌, inl, inr, ℕ, ◌<◌, ◌≤◌, List, length, Option, Some, None, slice_get, refl, ap, sym, subst, ◌∙◌, arith}
+use Rattle.std.proofs.Common.{◌≡◌, ◌⊎◌, inl, inr, ℕ, ◌<◌, List, length, Some, slice_get, refl, ap, sym, subst, ◌∙◌, arith}
 use Rattle.std.specs.List.{All}
 use Rattle.std.proofs.lemmas.Option.{slice_get_within, get_or_from_slice_get}
 use Rattle.vt_dec.specs.declared.side.Side.{Side}
@@ -12,17 +12,15 @@ use Rattle.vt_syntax.specs.declared.core_program.CoreProgram.{CoreProgram}
 use Rattle.vt_syntax.specs.declared.leaf.Class.{Class}
 use Rattle.vt_syntax.specs.declared.leaf.Leaf.{Leaf}
 use Rattle.vt_syntax.specs.CoreTrees.{fun_of, app_of, let_of, let_rec_of, choice_of}
-use Rattle.vt_syntax.specs.Holes.{core_with_hole, program_with_hole}
 use Rattle.vt_syntax.specs.Leaves.{HasLeaf, IsLeafIn, AreLeaves}
 use Rattle.vt_syntax.specs.Programs.{whole}
-use Rattle.vt_syntax.specs.Selection.{selected_core_program, IsPlainForm}
+use Rattle.vt_syntax.specs.Selection.{IsPlainForm}
 use Rattle.vt_syntax.specs.Varying.{program_varied}
 use Rattle.vt_syntax.proofs.SelectingVaried.{program-none, program-one}
 use Rattle.vt_syntax.proofs.WholeProgram.{whole-hole}
 use Rattle.vt_type.specs.declared.change.ChangeLine.{ChangeLine}
 use Rattle.vt_type.specs.declared.plain.Plain.{Plain}
-use Rattle.vt_type.specs.Canonical.{IsCanonical}
-use Rattle.vt_type.specs.Constants.{Constant, pair}
+use Rattle.vt_type.specs.Constants.{Constant}
 use Rattle.vt_store.specs.Patterns.{fate_at}
 use Rattle.vt_store.specs.Solutions.{PairReadsAs}
 use Rattle.vt_store.specs.Stores.{cell_count, ends_at}

@@ -4,3 +4,4 @@ mod VaryingForms
 mod VariedPrograms
 mod Deciding
 mod AnswerLemmas
+mod ListedLemmas

@@ -1,18 +1,17 @@
-use Rattle.std.proofs.Common.{◌≡◌, ℕ, suc, ◌<◌, ◌≤◌, List, [], ◌∷◌, ◌++◌, length, map, Option, Some, None, refl, ap, sym, subst, ◌∙◌, arith}
+use Rattle.std.proofs.Common.{◌≡◌, ℕ, suc, ◌≤◌, List, [], ◌∷◌, ◌++◌, length, Option, Some, None, refl, ap, sym, subst, ◌∙◌, arith}
 use Rattle.vt_dec.specs.declared.side.Side.{Side}
 use Rattle.vt_dec.specs.declared.side.Side.TheVariants.{Left, Right}
 use Rattle.vt_lex.specs.declared.span.Span.{Span}
 use Rattle.vt_syntax.specs.declared.core_expr.Core.{Core}
 use Rattle.vt_syntax.specs.declared.core_expr.Form.{Form, Literal, Name, Const, Hole}
-use Rattle.vt_syntax.specs.declared.core_program.CoreDef.{CoreDef}
 use Rattle.vt_syntax.specs.declared.core_program.CoreProgram.{CoreProgram}
 use Rattle.vt_syntax.specs.declared.leaf.Leaf.{Leaf}
 use Rattle.vt_syntax.specs.Checking.{numbers, numbers_of, Rise, IsInCheckingOrder}
 use Rattle.vt_syntax.specs.CoreTrees.{core, fun_of, app_of, let_of, let_rec_of, choice_of, fun_form, app_form, let_form, let_rec_form, choice_form}
-use Rattle.vt_syntax.specs.Programs.{nested, whole}
+use Rattle.vt_syntax.specs.Programs.{whole}
 use Rattle.vt_syntax.specs.Scoping.{IsScoped, HasConstants, HasDims, IsClosed}
-use Rattle.vt_syntax.specs.Selection.{chosen, selected_form, selected_core, selected_core_def, selected_core_program, IsPlainForm}
-use Rattle.vt_syntax.specs.Varying.{leaf_index, or_hole, varied, core_varied, def_varied, program_varied}
+use Rattle.vt_syntax.specs.Selection.{chosen, selected_core, selected_core_program, IsPlainForm}
+use Rattle.vt_syntax.specs.Varying.{leaf_index, or_hole, varied, program_varied}
 use Rattle.vt_syntax.proofs.LeafPlaces.{found-within}
 use Rattle.vt_syntax.proofs.WholeProgram.{whole-varied}
 use Rattle.vt_infer.proofs.KnownLemmas.{nested_selected}

@@ -1,3 +1,4 @@
 pub mod Numbering
 pub mod Ranking
 pub mod Curing
+pub mod Listed

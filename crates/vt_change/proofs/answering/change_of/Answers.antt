@@ -1,6 +1,5 @@
 use Rattle.std.proofs.Common.{◌≡◌, ◌<◌, Err, Some, slice_get, length, lit<, refl, sym, subst, ◌∙◌, ap, arith}
 use Rattle.std.proofs.lemmas.Option.{slice_get_read, same_Some}
-use Rattle.vt_dec.specs.declared.fate.Fate.TheVariants.{Alive}
 use Rattle.vt_syntax.specs.declared.leaf.Leaf.{Leaf}
 use Rattle.vt_store.specs.Patterns.{fate_at}
 use Rattle.vt_store.specs.Solutions.{PairReadsAs}

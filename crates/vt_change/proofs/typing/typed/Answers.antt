@@ -1,4 +1,4 @@
-use Rattle.std.proofs.Common.{◌∙◌, ◌*◌, length, lit<, sym, subst, arith}
+use Rattle.std.proofs.Common.{◌*◌, length, lit<, sym, subst, arith}
 use Rattle.vt_syntax.specs.Checking.{IsInCheckingOrder}
 use Rattle.vt_syntax.specs.Scoping.{IsClosed}
 use Rattle.vt_change.proofs.VariedPrograms.{closed-varied, order-varied}
