@@ -144,3 +144,18 @@ fn a_diagram_of_another_table_is_renamed(rt: HostRuntime) {
     let mut other = Table::<1>::new(rt.alloc());
     assert!(rt; matches!(is_renamed(&mut table, &mut other, rt.alloc()), Ok(true)));
 }
+
+// Where dimension 0 is Right, the diagram that is 7 on the right of dimension 1 has two values.
+fn is_parted(table: &mut Table<1>, alloc: Global) -> Result<bool, AllocError> {
+    let first = table.on(Dim(0), Side::Right)?;
+    let second = table.on(Dim(1), Side::Right)?;
+    let seven = table.write(Space::All, second, 7, DiagramId(0))?;
+    let parts = table.parts(alloc, &Context::whole(Space::All), first, seven)?;
+    Ok(parts.len() == 2 && parts[0].value == 0 && parts[1].value == 7)
+}
+
+#[test]
+fn a_region_has_a_part_for_each_value(rt: HostRuntime) {
+    let mut table = Table::<1>::new(rt.alloc());
+    assert!(rt; matches!(is_parted(&mut table, rt.alloc()), Ok(true)));
+}
