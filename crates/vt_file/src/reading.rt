@@ -2,6 +2,7 @@ ghost use Rattle.std.specs.Prelude.{◌≡◌, ◌≤◌, length, IfOk, IfErr, E
 ghost use Rattle.vt_lex.specs.Lexing.{most_bytes, AreTokensOf, IsFaultOf};
 ghost use Rattle.vt_lex.specs.Spans.{AreSpansIn, BeginWithAt, LiesIn};
 ghost use Rattle.vt_type.specs.Constants.{core_constants};
+ghost use Rattle.vt_syntax.specs.Leaves.{AreLeaves};
 ghost use Rattle.vt_parse.specs.Answer.{IsParsed, IsUnexpected, IsTooDeep};
 ghost use Rattle.vt_scope.specs.Faults.{IsFault};
 ghost use Rattle.vt_report.specs.Reports.{StandIn};
@@ -29,6 +30,7 @@ pub fn read(alloc: Global, bytes: &[u8]) -> Result<Source<'_>, FileFault>
     ensures text { IfOk result (λ s. s.text.now ≡ bytes.now) }
     ensures source { IfOk result (λ s. IsSourceOf bytes.now s.program s.resolved.core s.resolved.leaves s.resolved.tables.dims) }
     ensures places { IfOk result (λ s. StandIn bytes.now s.resolved.leaves) }
+    ensures leaves { IfOk result (λ s. AreLeaves s.resolved.core s.resolved.leaves) }
     ensures constants { IfOk result (λ s. s.constants ≡ core_constants) }
     ensures typable { IfOk result (λ s. IsTypable s.resolved.core (length s.resolved.tables.dims)) }
     ensures fault { IfErr result (IsFileFault bytes.now) }
@@ -99,6 +101,7 @@ fn source_of<'a>(alloc: Global, text: &'a str, tokens: &[Token]) -> Result<Sourc
     ensures text { IfOk result (λ s. s.text.now ≡ text.now) }
     ensures source { IfOk result (λ s. IsSourceOf text.now s.program s.resolved.core s.resolved.leaves s.resolved.tables.dims) }
     ensures places { IfOk result (λ s. StandIn text.now s.resolved.leaves) }
+    ensures leaves { IfOk result (λ s. AreLeaves s.resolved.core s.resolved.leaves) }
     ensures constants { IfOk result (λ s. s.constants ≡ core_constants) }
     ensures typable { IfOk result (λ s. IsTypable s.resolved.core (length s.resolved.tables.dims)) }
     ensures fault { IfErr result (IsFileFault text.now) }
@@ -180,6 +183,7 @@ fn resolved_of<'a>(
     ensures text { IfOk result (λ s. s.text.now ≡ text.now) }
     ensures source { IfOk result (λ s. IsSourceOf text.now s.program s.resolved.core s.resolved.leaves s.resolved.tables.dims) }
     ensures places { IfOk result (λ s. StandIn text.now s.resolved.leaves) }
+    ensures leaves { IfOk result (λ s. AreLeaves s.resolved.core s.resolved.leaves) }
     ensures constants { IfOk result (λ s. s.constants ≡ core_constants) }
     ensures typable { IfOk result (λ s. IsTypable s.resolved.core (length s.resolved.tables.dims)) }
     ensures fault { IfErr result (IsFileFault text.now) }

@@ -1,5 +1,8 @@
+use Rattle.std.proofs.Common.{subst, sym}
+use Rattle.vt_scope.specs.Cores.{NamesNoImplied}
 use Rattle.vt_file.proofs.ScopeRefusals.{source_is, typable}
 use Rattle.vt_file.proofs.LeafSpans.{leaves_stand}
+use Rattle.vt_file.proofs.Unnamed.{core_unnamed}
 use Rattle.vt_file.proofs.reading.resolved_of.Goals as goal
 
 pub returns-in-Ok-resolve-clause-source : goal.returns-in-Ok-resolve-clause-source
@@ -10,6 +13,9 @@ returns-in-Ok-resolve-clause-source c =
 pub returns-in-Ok-resolve-clause-places : goal.returns-in-Ok-resolve-clause-places
 returns-in-Ok-resolve-clause-places c =
     leaves_stand c.args.text.now c.args.tokens.now c.args.program _ _ _ _ c.requires.read c.requires.spans c.in-Ok-resolve.ensures.core
+
+pub returns-in-Ok-resolve-clause-leaves : goal.returns-in-Ok-resolve-clause-leaves
+returns-in-Ok-resolve-clause-leaves c = c.in-Ok-resolve.ensures.leaves (subst NamesNoImplied (sym c.in-Ok.ensures) core_unnamed)
 
 pub returns-in-Ok-resolve-clause-typable : goal.returns-in-Ok-resolve-clause-typable
 returns-in-Ok-resolve-clause-typable c =
