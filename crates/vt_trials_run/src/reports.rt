@@ -102,3 +102,26 @@ fn letters_are_shared_over_a_line(rt: HostRuntime) -> Result<(), Fail> {
     assert!(rt; is_told(rt.alloc(), "fun y -> (y, 1 true)", text)?);
     Ok(())
 }
+
+// A file that has a name for each of so many numbers, and then an application that fails.
+fn many(alloc: Global, count: usize) -> Result<String, AllocError> {
+    let mut file = String::new(alloc);
+    for _line in 0..count {
+        file.push_str("def y = 1;\n")?;
+    }
+    file.push_str("1 true")?;
+    Ok(file)
+}
+
+#[test]
+fn as_many_leaves_as_there_may_be_are_looked_at(rt: HostRuntime) -> Result<(), Fail> {
+    let file = many(rt.alloc(), 2046)?;
+    let said = is_told(
+        rt.alloc(),
+        file.as_str(),
+        "ill typed; 1 change\n2047:1 1 wants Bool -> 'a, result 'a\n",
+    );
+    drop(file);
+    assert!(rt; said?);
+    Ok(())
+}
