@@ -11,7 +11,7 @@ use Rattle.vt_diagram.specs.Tables.{entry_cmp, tree_of, tree_at, IsEntry, IsTabl
 use Rattle.vt_diagram.specs.Trees.{Tip, Fork, IsOrdered}
 use Rattle.vt_diagram.proofs.Growth.{IsLater, AreLater, tree_at-is, tree_at-kept}
 use Rattle.vt_diagram.proofs.Keys.{exact_entry}
-use Rattle.vt_diagram.proofs.Maps.{new_or_old, old_stays}
+use Rattle.vt_diagram.proofs.Maps.{new_or_old, old_stays, none_some}
 use Rattle.vt_diagram.proofs.Slices.{slice_get-before, slice_get-last, before_or_last}
 
 -- ---- a table as it stands
@@ -152,9 +152,6 @@ pub fewest_at : (bound : ℕ) (entries : List Entry) (numbers : BTreeMap Entry �
 fewest_at bound entries numbers counts held id found within is = same_Some found (fewest_in (tree_at entries id)) (sym is ∙ held.fewest.each id within)
 
 -- ---- the table that has the value 0 alone
-
-none_some : {X : Type 0} (x : X) → ◌≡◌ {A = Option X} None (Some x) → ⊥
-none_some x e = cc
 
 module _ (bound : ℕ) (numbers : BTreeMap Entry ℕ) (empty : numbers.entries ≡ []) where
   new_table : IsTable bound (Leaf 0 ∷ []) numbers

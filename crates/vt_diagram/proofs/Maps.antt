@@ -13,7 +13,7 @@ is_equal Less e = absurd cc
 is_equal Equal e = refl
 is_equal Greater e = absurd cc
 
-none_some : {X : Type 0} (x : X) → ◌≡◌ {A = Option X} None (Some x) → ⊥
+pub none_some : {X : Type 0} (x : X) → ◌≡◌ {A = Option X} None (Some x) → ⊥
 none_some x e = cc
 
 module _ {K X : Type 0} (cmp : K → K → Ordering) (exact : CmpEqualImpliesEq cmp) (old new : BTreeMap K X) (key : K) (value : X) (updates : Updates cmp old new key (Some value)) where

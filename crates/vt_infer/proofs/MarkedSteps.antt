@@ -18,17 +18,6 @@ use Rattle.vt_infer.proofs.Combining.{agree-then}
 
 -- The steps of expressions that hold a marked hole, at a decision that stays alive: from what is known of the part that holds it, and of the other part.
 
--- another cell of the same type
-pub at-same : (n m : ℕ) (A B : Solutions) (result leaf other : ℕ) (P : (ℕ → Plain) → Plain → Plain → Type 0)
-    → other < m → ((s : ℕ → Plain) → B s → s other ≡ s leaf) → AddsAt n m A B result leaf P → AddsAt n m A B result other P
-at-same n m A B result leaf other P within same h = record {
-  is_leaf = within;
-  related = λ s b. rw (same s b) (h.related s b);
-  taken = λ s type wanted a p.
-      let (t, b, agree, result_is, leaf_is) = h.taken s type wanted a p in
-      (t, b, agree, result_is, same t b ∙ leaf_is);
-}
-
 -- what keeps the solutions comes after
 pub at-keeps : (n m l : ℕ) (A B C : Solutions) (result leaf : ℕ) (P : (ℕ → Plain) → Plain → Plain → Type 0)
     → n ≤ m → result < m → AddsAt n m A B result leaf P → Keeps m l B C → AddsAt n l A C result leaf P
