@@ -32,17 +32,6 @@ abbrev IsLineOfSome : List Constant → Core → List Leaf → ChangeLine → Ty
 IsLineOfSome K program leaves line = (leaf : Leaf) × (slice_get leaves line.leaf ≡ Some leaf) × IsChangeOf K program leaf line
 
 module _ (K : List Constant) (program : Core) (leaves : List Leaf) where
-  pub listed-none : AreListed K program leaves 0 []
-  listed-none = record {
-    lines_are = λ i d within. absurd (omega arith);
-    complete = λ number leaf less is cures. absurd (omega arith);
-    below = λ i d within. absurd (omega arith);
-    rise = λ i j d below within. absurd (omega arith);
-    small = λ i d within. absurd (omega arith);
-    formed = λ i d within. absurd (omega arith);
-    none_too_big = λ number leaf less is big. absurd (omega arith);
-  }
-
   module _ (count : ℕ) (one : Leaf) (listed : slice_get leaves count ≡ Some one) where
     -- the one leaf that is new
     last : (number : ℕ) (leaf : Leaf) → number ≡ count → slice_get leaves number ≡ Some leaf → one ≡ leaf

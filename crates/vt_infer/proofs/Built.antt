@@ -1,22 +1,20 @@
-use Rattle.std.proofs.Common.{◌≡◌, ◌⊎◌, inl, inr, ℕ, ◌<◌, ◌≤◌, Bool, true, false, cond, List, [], ◌∷◌, ◌++◌, map, Option, Some, None, refl, ap, sym, subst, ◌∙◌, arith}
+use Rattle.std.proofs.Common.{◌≡◌, ◌⊎◌, inl, inr, ℕ, ◌<◌, Bool, true, false, cond, List, [], ◌∷◌, ◌++◌, map, Option, Some, None, refl, ap, sym, subst, ◌∙◌, arith}
 use Rattle.std.specs.Map.{lookup}
 use Rattle.std.specs.Str.{bytes_eq}
 use Rattle.std.specs.List.{All}
 use Rattle.std.proofs.lemmas.Option.{same_Some}
 use Rattle.std.proofs.lemmas.Slice.Eq.{bytes_eq-Decides}
-use Rattle.vt_dec.specs.declared.side.Side.{Side}
 use Rattle.vt_type.specs.declared.head.Head.{Head}
 use Rattle.vt_type.specs.declared.plain.Plain.{Plain, Var, Con}
 use Rattle.vt_type.specs.declared.plain.PlainKids.{PlainKids, Nil}
-use Rattle.vt_type.specs.Plain.{kids_of, IsWellFormed, IsInstance, substituted, kids_substituted}
+use Rattle.vt_type.specs.Plain.{kids_of, IsWellFormed, substituted, kids_substituted}
 use Rattle.vt_type.specs.Constants.{Constant, HasClosed}
 use Rattle.vt_store.specs.Solutions.{plain_kids}
 use Rattle.vt_store.specs.Stores.{Cells, cell_count}
 use Rattle.vt_store.specs.Writes.{IsOf}
 use Rattle.vt_infer.specs.Steps.{Agree}
 use Rattle.vt_infer.specs.Building.{Table, IsMet, AreThere, Match, IsBuilt}
-use Rattle.vt_infer.specs.Inferring.{solutions_at, IsNew, IsUse}
-use Rattle.vt_infer.proofs.Extending.{map-agrees}
+use Rattle.vt_infer.specs.Inferring.{IsNew, IsUse}
 
 -- Types that are built from cells.
 

@@ -1,4 +1,4 @@
-use Rattle.std.proofs.Common.{◌≡◌, ◌↔◌, ℕ, zero, suc, ◌<◌, ◌≤◌, Bool, true, false, List, [], ◌∷◌, ◌++◌, refl, sym, ap, subst, ◌∙◌, arith}
+use Rattle.std.proofs.Common.{◌≡◌, ◌↔◌, ℕ, suc, ◌<◌, ◌≤◌, List, [], ◌∷◌, ◌++◌, sym, subst, arith}
 use Rattle.vt_dec.specs.declared.side.Side.{Side}
 use Rattle.vt_dec.specs.declared.fate.Fate.{Fate}
 use Rattle.vt_dec.specs.declared.fate.Fate.TheVariants.{Alive, Dead}
@@ -10,12 +10,10 @@ use Rattle.vt_type.specs.declared.plain.Plain.{Plain}
 use Rattle.vt_type.specs.Canonical.{IsCanonical}
 use Rattle.vt_type.specs.Constants.{Constant, IsTable}
 use Rattle.vt_store.specs.Ends.{CellEnd}
-use Rattle.vt_store.specs.Patterns.{IsShown}
 use Rattle.vt_store.specs.Solutions.{Solves, ReadsAs}
 use Rattle.vt_store.specs.Stores.{cell_count, ends_at}
 use Rattle.vt_scheme.specs.declared.scheme.Scheme.{Scheme}
-use Rattle.vt_rules.specs.Env.{Env, Empty}
-use Rattle.vt_rules.specs.Typing.{Ty}
+use Rattle.vt_rules.specs.Env.{Empty}
 use Rattle.vt_rules.specs.TypingUpTo.{TyUpTo}
 use Rattle.vt_rules.specs.Failing.{FirstFailing}
 use Rattle.vt_rules.specs.Meaning.{own_expression, prefix}
@@ -23,8 +21,8 @@ use Rattle.vt_rules.specs.Principal.{IsTyped, Principal}
 use Rattle.vt_rules.proofs.LeastFailing.{failing-untyped}
 use Rattle.vt_infer.specs.Inferred.{IsPartAt, chosen}
 use Rattle.vt_infer.specs.Numbered.{IsNumberedCore}
-use Rattle.vt_infer.specs.Places.{Place, env_at, Gives}
-use Rattle.vt_infer.specs.Steps.{Solutions, Adds, Fails}
+use Rattle.vt_infer.specs.Places.{Gives}
+use Rattle.vt_infer.specs.Steps.{Solutions, Fails}
 use Rattle.vt_infer.specs.Definitions.{place_of, places_after, env_after, AreTyped, FailsIn, DefinitionSteps, AreChecked}
 use Rattle.vt_infer.proofs.NumberLemmas.{numbered-within}
 use Rattle.vt_infer.proofs.DefinitionLemmas.{nested-append, env-places, typed-append, chain_types, chain_fails}

@@ -1,16 +1,15 @@
-use Rattle.std.proofs.Common.{◌≡◌, ◌⊎◌, inl, inr, ℕ, ◌*◌, ◌<◌, ◌≤◌, List, [], ◌∷◌, ◌++◌, Option, Some, None, length, get_or, slice_get, refl, ap, sym, subst, ◌∙◌, arith}
+use Rattle.std.proofs.Common.{◌≡◌, ◌⊎◌, inl, inr, ℕ, ◌*◌, ◌<◌, List, ◌++◌, Some, get_or, slice_get, refl, ap, sym, subst, ◌∙◌, arith}
 use Rattle.std.proofs.lemmas.Option.{slice_get-get_or}
 use Rattle.std.specs.List.{Contains}
 use Rattle.std.proofs.lemmas.List.Elements.{Contains-append_left, Contains-append_right, Contains-append_cases}
 use Rattle.vt_dec.specs.declared.side.Side.{Side}
 use Rattle.vt_dec.specs.declared.side.Side.TheVariants.{Left, Right}
 use Rattle.vt_dec.specs.declared.fate.Fate.TheVariants.{Alive}
-use Rattle.vt_dec.specs.Decisions.{Region, Admits, Takes, CanTake, Narrows, IsNarrowed}
+use Rattle.vt_dec.specs.Decisions.{Region, Admits, Takes, CanTake, Narrows}
 use Rattle.vt_lex.specs.declared.span.Span.{Span}
 use Rattle.vt_syntax.specs.declared.core_expr.Core.{Core}
 use Rattle.vt_syntax.specs.CoreTrees.{core, choice_form}
 use Rattle.vt_syntax.specs.Selection.{chosen, core_at}
-use Rattle.vt_type.specs.declared.plain.Plain.{Plain}
 use Rattle.vt_type.specs.Variational.{by_side}
 use Rattle.vt_type.specs.Constants.{Constant}
 use Rattle.vt_store.specs.Patterns.{FateMap, fate_at}
@@ -18,14 +17,14 @@ use Rattle.vt_store.specs.Stores.{Cells, cell_count}
 use Rattle.vt_store.specs.Writes.{IsOf}
 use Rattle.vt_infer.specs.Places.{Place, HaveCells}
 use Rattle.vt_infer.specs.Numbered.{AreBefore, IsNumberedCore}
-use Rattle.vt_infer.specs.Steps.{Keeps, Adds, Steps, TypesOf}
+use Rattle.vt_infer.specs.Steps.{Keeps, Adds, Steps}
 use Rattle.vt_infer.specs.Environments.{AreMeant}
 use Rattle.vt_infer.specs.Inferring.{solutions_at, GoesOn, IsNew, IsExpressed}
 use Rattle.vt_infer.specs.declared.work.Work.{Work}
 use Rattle.vt_infer.specs.declared.holes.MetHole.{MetHole}
 use Rattle.vt_infer.specs.Meetings.{HoleLog, AreMetAt, IsMarked}
 use Rattle.vt_infer.specs.Wanted.{AddsAt, TypesAtOf}
-use Rattle.vt_infer.proofs.Combining.{keeps-then, steps-keeps, keeps-steps, steps-same}
+use Rattle.vt_infer.proofs.Combining.{steps-keeps, keeps-steps, steps-same}
 use Rattle.vt_rules.specs.TypingAt.{HoldsHole}
 use Rattle.vt_infer.proofs.MarkedSteps.{at-keeps, at-result, keeps-at}
 use Rattle.vt_infer.proofs.PartsExpressed.{both_added, added_cells, added_spaces, added_inside}

@@ -5,7 +5,7 @@ use Rattle.vt_syntax.specs.declared.core_expr.Core.{Core}
 use Rattle.vt_type.specs.declared.plain.Plain.{Plain}
 use Rattle.vt_type.specs.Constants.{Constant}
 use Rattle.vt_infer.specs.Places.{Place, HaveCells}
-use Rattle.vt_infer.specs.Steps.{Solutions, Agree, Keeps, Adds, Steps, IsPoly}
+use Rattle.vt_infer.specs.Steps.{Solutions, Agree, Keeps, Adds, Steps}
 use Rattle.vt_infer.proofs.PlaceLemmas.{env_at-agrees}
 
 -- Steps one after the other.

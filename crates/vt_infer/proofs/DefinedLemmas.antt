@@ -1,11 +1,10 @@
-use Rattle.std.proofs.Common.{◌≡◌, ℕ, suc, ◌<◌, ◌≤◌, Bool, true, false, List, [], ◌∷◌, length, refl, sym, ap, subst, ◌∙◌, arith}
-use Rattle.std.specs.List.{All}
+use Rattle.std.proofs.Common.{◌≡◌, ℕ, ◌≤◌, true, false, List, ◌∷◌, length, refl, sym, subst, ◌∙◌, arith}
 use Rattle.vt_dec.specs.declared.side.Side.{Side}
 use Rattle.vt_dec.specs.declared.fate.Fate.TheVariants.{Alive}
 use Rattle.vt_dec.specs.Decisions.{Region}
 use Rattle.vt_syntax.specs.declared.core_program.CoreDef.{CoreDef}
 use Rattle.vt_type.specs.Plain.{IsWellFormed}
-use Rattle.vt_type.specs.Constants.{Constant, IsTable}
+use Rattle.vt_type.specs.Constants.{Constant}
 use Rattle.vt_store.specs.Patterns.{fate_at}
 use Rattle.vt_store.specs.Stores.{Cells, cell_count}
 use Rattle.vt_store.specs.Writes.{IsOf}

@@ -1,19 +1,19 @@
-use Rattle.std.proofs.Common.{◌≡◌, ℕ, suc, ◌<◌, ◌≤◌, Bool, true, false, List, [], ◌∷◌, refl, sym, subst, arith}
+use Rattle.std.proofs.Common.{◌≡◌, ℕ, suc, ◌≤◌, Bool, true, false, List, ◌∷◌, refl, sym, subst, arith}
 use Rattle.vt_dec.specs.declared.fate.Fate.{Fate}
 use Rattle.vt_dec.specs.declared.fate.Fate.TheVariants.{Alive, Dead}
 use Rattle.vt_syntax.specs.declared.core_expr.Core.{Core}
 use Rattle.vt_syntax.specs.declared.core_expr.Form.{Name}
 use Rattle.vt_syntax.specs.declared.core_program.CoreDef.{CoreDef}
 use Rattle.vt_syntax.specs.CoreTrees.{core}
-use Rattle.vt_syntax.specs.Programs.{nested, binding}
+use Rattle.vt_syntax.specs.Programs.{binding}
 use Rattle.vt_type.specs.declared.plain.Plain.{Plain}
 use Rattle.vt_type.specs.Plain.{IsWellFormed}
 use Rattle.vt_type.specs.Constants.{Constant, IsTable}
 use Rattle.vt_rules.specs.Meaning.{own_expression}
 use Rattle.vt_infer.specs.Numbered.{IsNumberedCore, AreBefore}
 use Rattle.vt_infer.specs.Places.{Place, At, env_at, HaveCells, Gives}
-use Rattle.vt_infer.specs.Steps.{Solutions, AreFormed, Adds, Equates, TypesOf, Fails, Steps}
-use Rattle.vt_infer.specs.Definitions.{placed, place_of, FailsIn, DefinitionSteps}
+use Rattle.vt_infer.specs.Steps.{Solutions, AreFormed, Adds, Equates, Fails, Steps}
+use Rattle.vt_infer.specs.Definitions.{placed, FailsIn, DefinitionSteps}
 use Rattle.vt_infer.proofs.GoingOn.{alive_before}
 use Rattle.vt_infer.proofs.FormSteps.{let_step, let_rec_step, looped}
 

@@ -1,12 +1,12 @@
-use Rattle.std.proofs.Common.{◌≡◌, ◌↔◌, ℕ, suc, ◌<◌, ◌≤◌, Bool, true, false, List, [], ◌∷◌, ◌++◌, inl, inr, refl, sym, ap, subst, ◌∙◌, arith}
+use Rattle.std.proofs.Common.{◌≡◌, ℕ, ◌<◌, Bool, true, false, List, [], ◌∷◌, ◌++◌, inl, inr, refl, ap, ◌∙◌}
 use Rattle.std.proofs.lemmas.Bool.{cases_lt}
 use Rattle.vt_syntax.specs.declared.core_expr.Core.{Core}
 use Rattle.vt_syntax.specs.declared.core_program.CoreDef.{CoreDef}
-use Rattle.vt_syntax.specs.CoreTrees.{core, let_form, let_rec_form}
+use Rattle.vt_syntax.specs.CoreTrees.{core}
 use Rattle.vt_syntax.specs.Programs.{nested, binding}
 use Rattle.vt_type.specs.declared.plain.Plain.{Plain}
 use Rattle.vt_type.specs.Constants.{Constant, IsTable}
-use Rattle.vt_rules.specs.Env.{Env, Empty, ◌▸◌, Mono, Def, Rec, IsWellFormedEnv}
+use Rattle.vt_rules.specs.Env.{Env, Empty, ◌▸◌, Mono, IsWellFormedEnv}
 use Rattle.vt_rules.specs.Typing.{Ty}
 use Rattle.vt_rules.specs.Typing as ty
 use Rattle.vt_rules.specs.TypingUpTo.{TyUpTo}
@@ -15,7 +15,7 @@ use Rattle.vt_rules.specs.Failing.{FirstFailing}
 use Rattle.vt_rules.proofs.Inversion.{of_let, of_let_rec}
 use Rattle.vt_rules.proofs.InversionUpTo.{let_parts, let_rec_parts}
 use Rattle.vt_rules.proofs.UpTo.{ty-up_to, up_to-well_formed}
-use Rattle.vt_infer.specs.Places.{Place, Bound, Looped, entry_of, env_at, HaveCells, cells_of, Gives}
+use Rattle.vt_infer.specs.Places.{Place, entry_of, env_at, HaveCells, cells_of, Gives}
 use Rattle.vt_infer.specs.Definitions.{placed, place_of, places_after, entry_with, env_with, env_after, AreTyped}
 
 -- Definitions that have types, and what follows them.

@@ -1,4 +1,4 @@
-use Rattle.std.proofs.Common.{◌≡◌, ◌⊎◌, inl, inr, ℕ, zero, suc, ◌+◌, ◌<◌, ◌≤◌, cond, nat_lt, true, false, List, [], ◌∷◌, map, refl, ap, sym, subst, ◌∙◌, arith}
+use Rattle.std.proofs.Common.{◌≡◌, ◌⊎◌, inl, inr, ℕ, ◌+◌, ◌<◌, cond, nat_lt, List, [], ◌∷◌, map, refl, ap, sym, subst, ◌∙◌, arith}
 use Rattle.std.specs.List.{All}
 use Rattle.std.proofs.lemmas.Bool.{lt-ltb, le-ltb, cases_eq}
 use Rattle.std.proofs.lemmas.List.Elements.{All-head, All-tail}
@@ -7,7 +7,7 @@ use Rattle.vt_type.specs.Plain.{IsWellFormed}
 use Rattle.vt_store.specs.Ends.{CellEnd, Free, Same, Made, EachCell, IsAcyclic}
 use Rattle.vt_store.specs.Solutions.{plain_kids, Fits, Solves}
 use Rattle.vt_store.proofs.Cells.{IsAcyclic-named}
-use Rattle.vt_infer.specs.Steps.{Solutions, Agree, Keeps, Adds}
+use Rattle.vt_infer.specs.Steps.{Agree, Adds}
 
 -- A store with one more cell, at one decision: what that does to its solutions.
 

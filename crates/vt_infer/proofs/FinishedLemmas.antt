@@ -1,4 +1,4 @@
-use Rattle.std.proofs.Common.{◌≡◌, ◌↔◌, ◌⊎◌, ℕ, zero, suc, ◌+◌, ◌*◌, ◌<◌, ◌≤◌, List, [], ◌∷◌, ◌++◌, length, map, take, drop, slice_get, Option, Some, None, All, inl, inr, refl, sym, ap, subst, ◌∙◌, arith}
+use Rattle.std.proofs.Common.{◌≡◌, ◌↔◌, ◌⊎◌, ℕ, suc, ◌+◌, ◌*◌, ◌<◌, ◌≤◌, List, [], ◌∷◌, ◌++◌, length, take, drop, slice_get, Option, Some, None, All, inl, inr, refl, sym, subst, ◌∙◌, arith}
 use Rattle.std.proofs.lemmas.List.{take_all, drop_all, length-map}
 use Rattle.std.proofs.lemmas.List.Elements.{All-cons}
 use Rattle.std.proofs.lemmas.Option.{slice_get_within, slice_get_past, slice_get-get_or}
@@ -16,7 +16,7 @@ use Rattle.vt_syntax.specs.CoreTrees.{core, fun_of, app_of, let_of, let_rec_of, 
 use Rattle.vt_syntax.specs.Checking.{Rise, numbers_of, IsInCheckingOrder, IsGreatest}
 use Rattle.vt_syntax.specs.Programs.{nested, whole}
 use Rattle.vt_syntax.specs.Scoping.{HasDims}
-use Rattle.vt_syntax.specs.Selection.{selected_core_def, selected_form, selected_core_program, chosen, core_at, IsPlainForm}
+use Rattle.vt_syntax.specs.Selection.{selected_core_def, selected_form, chosen, core_at, IsPlainForm}
 use Rattle.vt_syntax.proofs.Choosing.{selected-alike}
 use Rattle.vt_type.specs.declared.plain.Plain.{Plain}
 use Rattle.vt_type.specs.Canonical.{IsCanonical}
@@ -26,22 +26,19 @@ use Rattle.vt_store.specs.Stores.{Cells, cell_count, ends_at}
 use Rattle.vt_store.specs.Writes.{IsOf}
 use Rattle.vt_scheme.specs.declared.scheme.Scheme.{Scheme}
 use Rattle.vt_scheme.specs.Schemes.{IsFrozen}
-use Rattle.vt_rules.specs.Env.{Env, Empty}
+use Rattle.vt_rules.specs.Env.{Empty}
 use Rattle.vt_rules.specs.Typing.{Ty}
 use Rattle.vt_rules.specs.Failing.{FirstFailing}
-use Rattle.vt_rules.specs.Meaning.{prefix}
 use Rattle.vt_rules.specs.Principal.{IsTyped, Principal}
 use Rattle.vt_rules.proofs.InOrder.{AllNodes, all_nodes}
 use Rattle.vt_rules.proofs.NodesAbove.{weaker}
 use Rattle.vt_infer.specs.declared.environment.Entry.{Entry}
-use Rattle.vt_infer.specs.Definitions.{places_after, env_after, AreTyped, AreChecked}
+use Rattle.vt_infer.specs.Definitions.{places_after, env_after, AreChecked}
 use Rattle.vt_infer.specs.Inferred.{IsPartAt}
-use Rattle.vt_infer.specs.Inferred as inferred
 use Rattle.vt_infer.specs.Inferring.{solutions_at}
 use Rattle.vt_infer.specs.Numbered.{IsNumberedCore, AreBefore}
 use Rattle.vt_infer.specs.Parts.{defs_at, AreKnown, IsReachedAt}
-use Rattle.vt_infer.specs.Places.{env_at}
-use Rattle.vt_infer.specs.Steps.{Solutions, Adds, TypesOf, Fails, Steps}
+use Rattle.vt_infer.specs.Steps.{Solutions, TypesOf, Steps}
 use Rattle.vt_infer.proofs.CheckedLemmas.{fails_after, part_alive, part_dead, part_later}
 use Rattle.vt_infer.proofs.DefinitionLemmas.{env-places}
 use Rattle.vt_infer.proofs.KnownLemmas.{last_or_before, chosen_main, nested_selected}

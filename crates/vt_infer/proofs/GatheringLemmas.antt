@@ -1,10 +1,9 @@
-use Rattle.std.proofs.Common.{◌≡◌, ◌⊎◌, ◌↔◌, inl, inr, ℕ, suc, ◌+◌, ◌<◌, ◌≤◌, Bool, true, false, List, [], ◌∷◌, ◌++◌, length, map, take, drop, slice_get, Some, append_assoc, add-one, refl, sym, ap, subst, ◌∙◌, arith}
+use Rattle.std.proofs.Common.{◌≡◌, ◌⊎◌, ◌↔◌, inl, inr, ℕ, suc, ◌+◌, ◌<◌, true, false, List, [], ◌∷◌, ◌++◌, take, drop, slice_get, Some, add-one, refl, sym, ap, subst, ◌∙◌, arith}
 use Rattle.std.specs.List.{Contains}
 use Rattle.std.specs.Option.{option_map}
 use Rattle.std.proofs.lemmas.Option.{slice_get-map}
 use Rattle.std.proofs.lemmas.List.Elements.{Contains-append_left, Contains-append_right, Contains-append_cases}
 use Rattle.vt_dec.specs.declared.side.Side.{Side}
-use Rattle.vt_dec.specs.declared.fate.Fate.{Fate}
 use Rattle.vt_dec.specs.declared.fate.Fate.TheVariants.{Alive}
 use Rattle.vt_dec.specs.Decisions.{Region, Admits}
 use Rattle.vt_syntax.specs.declared.core_program.CoreDef.{CoreDef}
@@ -13,8 +12,8 @@ use Rattle.vt_syntax.specs.Programs.{nested}
 use Rattle.vt_syntax.specs.Selection.{core_at, selected_core_def}
 use Rattle.vt_type.specs.declared.plain.Plain.{Plain}
 use Rattle.vt_type.specs.Plain.{IsWellFormed}
-use Rattle.vt_type.specs.Constants.{Constant, IsTable}
-use Rattle.vt_rules.specs.Env.{Env, Empty}
+use Rattle.vt_type.specs.Constants.{Constant}
+use Rattle.vt_rules.specs.Env.{Empty}
 use Rattle.vt_rules.specs.TypingAt.{HoldsHole}
 use Rattle.vt_store.specs.Patterns.{fate_at}
 use Rattle.vt_store.specs.Stores.{Cells, cell_count}
@@ -29,15 +28,15 @@ use Rattle.vt_infer.specs.Inferring.{IsNew, IsEquated, IsExpressed, solutions_at
 use Rattle.vt_infer.specs.Meetings.{HoleLog, AreMetAt, IsMarked}
 use Rattle.vt_infer.specs.Numbered.{AreBefore, IsNumberedCore}
 use Rattle.vt_infer.specs.Parts.{Covers, IsAdded, IsReached, IsReachedAt, AreKnown, defs_at, def_at}
-use Rattle.vt_infer.specs.Places.{Place, At, Bound, Looped, HaveCells, env_at, Gives}
-use Rattle.vt_infer.specs.Steps.{Solutions, Adds, Agree, Equates, Steps, TypesOf}
-use Rattle.vt_infer.specs.Wanted.{AddsAt, TypesAtOf, GivesAt}
+use Rattle.vt_infer.specs.Places.{Place, At, HaveCells, env_at, Gives}
+use Rattle.vt_infer.specs.Steps.{Solutions, Adds, Equates, Steps, TypesOf}
+use Rattle.vt_infer.specs.Wanted.{AddsAt, GivesAt}
 use Rattle.vt_infer.proofs.DefinitionLemmas.{env-places, places-cells}
 use Rattle.vt_infer.proofs.GoingOn.{of_same, alive_before}
 use Rattle.vt_infer.proofs.HolesWithin.{holds-within}
 use Rattle.vt_infer.proofs.KnownLemmas.{are_meant, take-at, drop-at}
 use Rattle.vt_infer.proofs.MarkedSteps.{looped_at}
-use Rattle.vt_infer.proofs.NestedHoles.{holds_in-append, holds_in-left, holds_in-right, holds_in-before, gives_at-holds, gives_in-holds, gives_in-append, gives_in-left, gives_in-right}
+use Rattle.vt_infer.proofs.NestedHoles.{holds_in-append, holds_in-left, holds_in-right, holds_in-before, gives_in-holds, gives_in-append, gives_in-left, gives_in-right}
 use Rattle.vt_infer.proofs.PartsExpressed.{added_cells, added_spaces}
 use Rattle.vt_infer.proofs.PartLemmas.{two_numbered}
 

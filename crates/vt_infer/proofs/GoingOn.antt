@@ -1,18 +1,18 @@
-use Rattle.std.proofs.Common.{◌≡◌, ℕ, zero, suc, ◌<◌, ◌≤◌, List, [], ◌∷◌, Some, length, map, drop, slice_get, refl, ap, sym, subst, ◌∙◌, arith}
+use Rattle.std.proofs.Common.{◌≡◌, ℕ, zero, suc, ◌<◌, ◌≤◌, List, [], ◌∷◌, Some, drop, slice_get, refl, sym, subst, ◌∙◌, arith}
 use Rattle.std.specs.List.{All}
 use Rattle.std.proofs.lemmas.List.Elements.{All-weaker, All-nil, All-cons}
 use Rattle.std.proofs.lemmas.Option.{same_Some}
 use Rattle.vt_dec.specs.declared.side.Side.{Side}
 use Rattle.vt_dec.specs.declared.fate.Fate.{Fate}
 use Rattle.vt_dec.specs.declared.fate.Fate.TheVariants.{Alive, Dead}
-use Rattle.vt_dec.specs.Decisions.{Region, Admits}
+use Rattle.vt_dec.specs.Decisions.{Region}
 use Rattle.vt_type.specs.declared.plain.Plain.{Plain}
 use Rattle.vt_type.specs.Constants.{Constant}
-use Rattle.vt_store.specs.Patterns.{FateMap, fate_at}
+use Rattle.vt_store.specs.Patterns.{FateMap}
 use Rattle.vt_store.specs.Stores.{Cells, cell_count}
 use Rattle.vt_store.specs.Writes.{IsOf}
 use Rattle.vt_infer.specs.Places.{Place, At, Bound, Looped, HaveCells, cells_of}
-use Rattle.vt_infer.specs.Steps.{Solutions, AreFormed, Keeps, Adds, IsPoly}
+use Rattle.vt_infer.specs.Steps.{Solutions, AreFormed, IsPoly}
 use Rattle.vt_infer.specs.Environments.{IsHeld, IsHeldEntry, IsMeant, AreMeant, mono_cells}
 use Rattle.vt_infer.specs.Inferring.{solutions_at, GoesOn, NewTypes, IsNew}
 use Rattle.vt_infer.specs.declared.environment.Entry.{Entry}

@@ -1,13 +1,11 @@
-use Rattle.std.proofs.Common.{◌≡◌, ◌↔◌, ℕ, zero, suc, ◌+◌, ◌*◌, ◌<◌, ◌≤◌, List, [], ◌∷◌, ◌++◌, length, map, take, drop, slice_get, replicate, Option, Some, None, All, refl, sym, ap, subst, ◌∙◌, length-append, add-one, arith}
+use Rattle.std.proofs.Common.{◌≡◌, ℕ, suc, ◌+◌, ◌*◌, ◌<◌, List, [], ◌∷◌, ◌++◌, length, map, take, slice_get, replicate, Some, None, All, refl, sym, ap, subst, ◌∙◌, length-append, add-one, arith}
 use Rattle.std.proofs.lemmas.List.{length-map, take_all, drop_all}
 use Rattle.std.proofs.lemmas.List.Elements.{All-append, All-cons}
 use Rattle.std.proofs.lemmas.Option.{slice_get-get_or}
 use Rattle.std.proofs.Math.ListN.{get_or}
 use Rattle.vt_dec.specs.declared.side.Side.{Side}
 use Rattle.vt_dec.specs.declared.side.Space.{Space}
-use Rattle.vt_dec.specs.declared.fate.Fate.{Fate}
-use Rattle.vt_dec.specs.declared.fate.Fate.TheVariants.{Alive, Dead}
-use Rattle.vt_dec.specs.Decisions.{Region, Admits}
+use Rattle.vt_dec.specs.Decisions.{Region}
 use Rattle.vt_dec.proofs.Admitting.{Agrees-open}
 use Rattle.vt_syntax.specs.declared.core_program.CoreProgram.{CoreProgram}
 use Rattle.vt_syntax.specs.declared.leaf.Leaf.{Leaf}

@@ -1,18 +1,17 @@
-use Rattle.std.proofs.Common.{◌≡◌, ◌⊎◌, inl, inr, ◌↔◌, ℕ, ◌<◌, ◌≤◌, List, refl, ap, sym, subst, ◌∙◌, arith}
+use Rattle.std.proofs.Common.{◌≡◌, ◌⊎◌, inl, inr, ℕ, ◌<◌, List, refl, ap, sym, subst, ◌∙◌, arith}
 use Rattle.vt_dec.specs.declared.side.Side.{Side}
 use Rattle.vt_dec.specs.declared.fate.Fate.{Fate}
 use Rattle.vt_dec.specs.declared.fate.Fate.TheVariants.{Alive, Dead}
 use Rattle.vt_dec.specs.Decisions.{Region, Admits}
 use Rattle.vt_dec.proofs.Admitting.{Admits-or}
-use Rattle.vt_type.specs.declared.plain.Plain.{Plain}
 use Rattle.vt_type.specs.Plain.{IsWellFormed}
 use Rattle.vt_type.specs.Constants.{◌⇒◌, int}
 use Rattle.vt_store.specs.Patterns.{FateMap, fate_at}
-use Rattle.vt_store.specs.Stores.{Cells, cell_count, ends_at}
+use Rattle.vt_store.specs.Stores.{Cells, cell_count}
 use Rattle.vt_store.specs.Writes.{IsOf}
-use Rattle.vt_unify.specs.Unified.{IsUnified, IsKeptAt, IsEither}
+use Rattle.vt_unify.specs.Unified.{IsUnified, IsEither}
 use Rattle.vt_store.proofs.Solutions.{HaveSolutions}
-use Rattle.vt_infer.specs.Steps.{Solutions, AreFormed, Agree, Keeps, Adds, Joins, Equates}
+use Rattle.vt_infer.specs.Steps.{Solutions, AreFormed, Agree, Adds, Joins, Equates}
 use Rattle.vt_infer.specs.Inferring.{solutions_at, GoesOn, IsNew, IsJoint, IsEquated}
 use Rattle.vt_infer.proofs.Combining.{agree-then}
 use Rattle.vt_infer.proofs.GoingOn.{goes_on-then, goes_on-new, of_same, formed_at}

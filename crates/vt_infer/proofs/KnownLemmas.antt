@@ -1,4 +1,4 @@
-use Rattle.std.proofs.Common.{◌≡◌, ◌↔◌, ◌⊎◌, ℕ, zero, suc, ◌<◌, ◌≤◌, Bool, true, false, List, [], ◌∷◌, ◌++◌, length, map, take, drop, get_or, slice_get, Option, Some, None, All, inl, inr, refl, sym, ap, subst, ◌∙◌, arith}
+use Rattle.std.proofs.Common.{◌≡◌, ◌⊎◌, ℕ, zero, suc, ◌<◌, Bool, true, false, List, [], ◌∷◌, ◌++◌, length, map, take, drop, slice_get, Option, Some, None, All, inl, inr, refl, sym, ap, subst, ◌∙◌, arith}
 use Rattle.std.proofs.lemmas.Option.{slice_get-map, same_Some, none-some, slice_get_within, get_or_from_slice_get}
 use Rattle.std.proofs.Math.Seq.{take-suc, drop-cons}
 use Rattle.std.specs.Option.{option_map}
@@ -8,8 +8,7 @@ use Rattle.vt_syntax.specs.declared.core_program.CoreDef.{CoreDef}
 use Rattle.vt_syntax.specs.declared.core_program.CoreProgram.{CoreProgram}
 use Rattle.vt_syntax.specs.CoreTrees.{core}
 use Rattle.vt_syntax.specs.Programs.{nested, binding, whole}
-use Rattle.vt_syntax.specs.Selection.{selected_core, selected_core_def, selected_core_program, core_at}
-use Rattle.vt_type.specs.declared.plain.Plain.{Plain}
+use Rattle.vt_syntax.specs.Selection.{selected_core, selected_core_def, selected_core_program}
 use Rattle.vt_type.specs.Constants.{Constant}
 use Rattle.vt_scheme.specs.declared.scheme.Scheme.{Scheme}
 use Rattle.vt_scheme.specs.Schemes.{Allows}
@@ -17,11 +16,11 @@ use Rattle.vt_rules.specs.Meaning.{own_expression, prefix, ending_at}
 use Rattle.vt_rules.proofs.Prefixes.{prefix_selected}
 use Rattle.vt_infer.specs.declared.environment.Entry.{Entry}
 use Rattle.vt_infer.specs.declared.environment.Entry.TheVariants.{Mono, Poly}
-use Rattle.vt_infer.specs.Definitions.{placed, place_of}
+use Rattle.vt_infer.specs.Definitions.{placed}
 use Rattle.vt_infer.specs.Environments.{IsMeant, AreMeant}
 use Rattle.vt_infer.specs.Inferred.{chosen}
 use Rattle.vt_infer.specs.Parts.{defs_at, def_at, GivesAll, IsKnown, AreKnown}
-use Rattle.vt_infer.specs.Places.{Place, At, Bound, Looped, env_at, Gives}
+use Rattle.vt_infer.specs.Places.{Place, At, Bound, Looped}
 use Rattle.vt_infer.specs.Steps.{Solutions, IsPoly}
 
 -- Lists cut at a place, what a decision selects from the parts of a program, and the names of definitions.

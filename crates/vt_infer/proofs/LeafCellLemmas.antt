@@ -1,4 +1,4 @@
-use Rattle.std.proofs.Common.{◌≡◌, ◌↔◌, ℕ, ◌<◌, ◌≤◌, List, [], ◌∷◌, length, map, Some, slice_get, get_or, refl, sym, ap, subst, ◌∙◌, arith}
+use Rattle.std.proofs.Common.{◌≡◌, ◌↔◌, ℕ, ◌<◌, List, length, map, Some, slice_get, get_or, sym, ap, subst, ◌∙◌, arith}
 use Rattle.std.specs.BTreeMap.{BTreeMap}
 use Rattle.std.specs.List.{All, Contains}
 use Rattle.std.specs.Option.{option_map}
@@ -7,8 +7,6 @@ use Rattle.std.proofs.lemmas.List.Elements.{All-map}
 use Rattle.std.proofs.lemmas.Option.{slice_get-map, same_Some}
 use Rattle.vt_dec.specs.declared.side.Side.{Side}
 use Rattle.vt_dec.specs.declared.side.Space.{Space}
-use Rattle.vt_dec.specs.declared.fate.Fate.TheVariants.{Alive}
-use Rattle.vt_dec.specs.Decisions.{Admits}
 use Rattle.vt_syntax.specs.declared.core_expr.Core.{Core}
 use Rattle.vt_syntax.specs.declared.core_program.CoreProgram.{CoreProgram}
 use Rattle.vt_syntax.specs.declared.leaf.Leaf.{Leaf}
@@ -17,22 +15,19 @@ use Rattle.vt_type.specs.Plain.{IsInstance}
 use Rattle.vt_type.specs.Canonical.{IsCanonical}
 use Rattle.vt_type.specs.Constants.{Constant, pair}
 use Rattle.vt_rules.specs.Env.{Empty}
-use Rattle.vt_rules.specs.Principal.{IsTyped, Principal, PrincipalAt}
-use Rattle.vt_rules.specs.TypingAt.{TyAt, HoldsHole}
+use Rattle.vt_rules.specs.Principal.{PrincipalAt}
+use Rattle.vt_rules.specs.TypingAt.{TyAt}
 use Rattle.vt_store.specs.Ends.{CellEnd}
-use Rattle.vt_store.specs.Patterns.{fate_at}
 use Rattle.vt_store.specs.Solutions.{Solves, ReadsAs, PairReadsAs}
 use Rattle.vt_store.specs.Stores.{Cells, cell_count, ends_at}
 use Rattle.vt_store.specs.Writes.{IsOf}
 use Rattle.vt_infer.specs.declared.holes.MetHole.{MetHole}
 use Rattle.vt_infer.specs.declared.typed.Typed.{Typed}
-use Rattle.vt_infer.specs.declared.work.Work.{Work}
 use Rattle.vt_infer.specs.Gathering.{HavePairs, AreFoundAt, AreFound}
 use Rattle.vt_infer.specs.Inferred.{IsInferred, AreLeafCells, chosen}
 use Rattle.vt_infer.specs.Inferring.{solutions_at}
 use Rattle.vt_infer.specs.Meetings.{HoleLog}
 use Rattle.vt_infer.specs.Mixing.{GrowsTo, IsOfHole, ArePlaced, HaveLeafCells, cell_in}
-use Rattle.vt_infer.specs.Parts.{typed_of}
 use Rattle.vt_infer.specs.Steps.{Keeps}
 
 -- The cells of leaves, from those of the holes that were met.

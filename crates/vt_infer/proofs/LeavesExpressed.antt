@@ -13,24 +13,23 @@ use Rattle.vt_syntax.specs.CoreTrees.{core}
 use Rattle.vt_syntax.specs.Selection.{core_at}
 use Rattle.vt_type.specs.declared.plain.Plain.{Plain, Var}
 use Rattle.vt_type.specs.Plain.{IsWellFormed, IsInstance, substituted}
-use Rattle.vt_type.specs.Constants.{Constant, IsTable, HasClosed}
+use Rattle.vt_type.specs.Constants.{Constant, IsTable}
 use Rattle.vt_rules.specs.Typing.{literal_type}
 use Rattle.vt_rules.specs.TypingAt.{HoldsHole}
 use Rattle.vt_scheme.specs.Schemes.{Allows}
 use Rattle.vt_scheme.specs.declared.scheme.Scheme.{Scheme}
-use Rattle.vt_store.specs.Patterns.{FateMap, fate_at}
-use Rattle.vt_store.specs.Stores.{Cells, cell_count}
+use Rattle.vt_store.specs.Patterns.{fate_at}
+use Rattle.vt_store.specs.Stores.{cell_count}
 use Rattle.vt_store.specs.Writes.{IsOf}
 use Rattle.vt_infer.specs.Places.{Place, At, Bound, Looped, HaveCells}
-use Rattle.vt_infer.specs.Numbered.{AreBefore, IsNumberedCore}
+use Rattle.vt_infer.specs.Numbered.{AreBefore}
 use Rattle.vt_infer.specs.Steps.{Adds, Joins, Steps}
-use Rattle.vt_infer.specs.Environments.{IsHeld, IsMeant, AreMeant}
-use Rattle.vt_infer.specs.Inferring.{solutions_at, GoesOn, NewTypes, IsNew, IsJoint, IsUse, IsUsed, IsNamed, IsExpressed}
+use Rattle.vt_infer.specs.Environments.{IsHeld, IsMeant}
+use Rattle.vt_infer.specs.Inferring.{solutions_at, GoesOn, NewTypes, IsNew, IsUse, IsUsed, IsNamed, IsExpressed}
 use Rattle.vt_infer.specs.declared.environment.Entry.{Entry}
 use Rattle.vt_infer.specs.declared.environment.Entry.TheVariants.{Mono, Poly}
 use Rattle.vt_infer.specs.declared.work.Work.{Work}
-use Rattle.vt_infer.specs.declared.holes.MetHole.{MetHole}
-use Rattle.vt_infer.specs.Meetings.{HoleLog, IsNoted, AreMetAt, IsMarked}
+use Rattle.vt_infer.specs.Meetings.{HoleLog, IsNoted, IsMarked}
 use Rattle.vt_infer.specs.Wanted.{AddsAt, TypesAtOf}
 use Rattle.vt_infer.proofs.FormSteps.{literal_step, constant_step, hole_step, mono_step, poly_step}
 use Rattle.vt_infer.proofs.MarkedSteps.{hole_at}

@@ -1,31 +1,28 @@
-use Rattle.std.proofs.Common.{◌≡◌, ◌↔◌, ◌⊎◌, inl, inr, ℕ, suc, ◌<◌, ◌≤◌, List, [], ◌∷◌, ◌++◌, length, map, refl, ap, sym, subst, ◌∙◌, arith}
+use Rattle.std.proofs.Common.{◌≡◌, ◌⊎◌, inl, inr, ℕ, suc, ◌<◌, ◌≤◌, List, ◌∷◌, ◌++◌, refl, ap, sym, subst, ◌∙◌, arith}
 use Rattle.std.specs.List.{Contains}
 use Rattle.std.proofs.lemmas.List.Elements.{Contains-append_left, Contains-append_right, Contains-append_cases}
 use Rattle.vt_dec.specs.declared.side.Side.{Side}
-use Rattle.vt_dec.specs.declared.fate.Fate.{Fate}
-use Rattle.vt_dec.specs.declared.fate.Fate.TheVariants.{Alive, Dead}
+use Rattle.vt_dec.specs.declared.fate.Fate.TheVariants.{Alive}
 use Rattle.vt_dec.specs.Decisions.{Region, Admits}
 use Rattle.vt_lex.specs.declared.span.Span.{Span}
 use Rattle.vt_syntax.specs.declared.core_expr.Core.{Core}
 use Rattle.vt_syntax.specs.CoreTrees.{core, let_rec_form}
 use Rattle.vt_syntax.specs.Selection.{core_at}
-use Rattle.vt_type.specs.declared.plain.Plain.{Plain}
 use Rattle.vt_type.specs.Plain.{IsWellFormed}
 use Rattle.vt_type.specs.Constants.{Constant, IsTable}
-use Rattle.vt_store.specs.Patterns.{FateMap, fate_at}
-use Rattle.vt_store.specs.Stores.{Cells, cell_count}
+use Rattle.vt_store.specs.Patterns.{fate_at}
+use Rattle.vt_store.specs.Stores.{cell_count}
 use Rattle.vt_store.specs.Writes.{IsOf}
-use Rattle.vt_infer.specs.Places.{Place, At, Bound, Looped, env_at, HaveCells, Gives}
+use Rattle.vt_infer.specs.Places.{Place, At, Looped, env_at, HaveCells, Gives}
 use Rattle.vt_infer.specs.Numbered.{AreBefore, IsNumberedCore}
-use Rattle.vt_infer.specs.Steps.{Solutions, AreFormed, Adds, Equates, Steps, TypesOf}
+use Rattle.vt_infer.specs.Steps.{AreFormed, Adds, Equates, Steps, TypesOf}
 use Rattle.vt_infer.specs.Environments.{AreMeant}
 use Rattle.vt_infer.specs.Inferring.{solutions_at, GoesOn, IsNew, IsEquated, IsGeneralised, IsExpressed}
-use Rattle.vt_infer.specs.declared.environment.Entry.{Entry}
 use Rattle.vt_infer.specs.declared.environment.Entry.TheVariants.{Mono}
 use Rattle.vt_infer.specs.declared.work.Work.{Work}
 use Rattle.vt_infer.specs.declared.holes.MetHole.{MetHole}
 use Rattle.vt_infer.specs.Meetings.{HoleLog, AreMetAt, IsMarked}
-use Rattle.vt_infer.specs.Wanted.{AddsAt, TypesAtOf, GivesAt}
+use Rattle.vt_infer.specs.Wanted.{AddsAt, TypesAtOf}
 use Rattle.vt_rules.specs.TypingAt.{HoldsHole}
 use Rattle.vt_infer.proofs.MarkedSteps.{looped_at, rec_bound_at, rec_body_at}
 use Rattle.vt_infer.proofs.HolesWithin.{holds-one}

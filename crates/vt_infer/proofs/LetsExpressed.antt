@@ -1,34 +1,30 @@
-use Rattle.std.proofs.Common.{◌≡◌, ◌↔◌, ◌⊎◌, inl, inr, ℕ, suc, ◌<◌, ◌≤◌, List, [], ◌∷◌, ◌++◌, length, map, refl, ap, sym, subst, ◌∙◌, arith}
+use Rattle.std.proofs.Common.{◌≡◌, ◌↔◌, ◌⊎◌, inl, inr, ℕ, suc, ◌<◌, ◌≤◌, List, [], ◌∷◌, ◌++◌, map, ap, sym, subst, ◌∙◌, arith}
 use Rattle.std.specs.List.{All, Contains}
 use Rattle.std.proofs.lemmas.List.Elements.{Contains-append_left, Contains-append_right, Contains-append_cases}
 use Rattle.vt_dec.specs.declared.side.Side.{Side}
-use Rattle.vt_dec.specs.declared.fate.Fate.{Fate}
-use Rattle.vt_dec.specs.declared.fate.Fate.TheVariants.{Alive, Dead}
+use Rattle.vt_dec.specs.declared.fate.Fate.TheVariants.{Alive}
 use Rattle.vt_dec.specs.Decisions.{Region, Admits}
 use Rattle.vt_lex.specs.declared.span.Span.{Span}
 use Rattle.vt_syntax.specs.declared.core_expr.Core.{Core}
 use Rattle.vt_syntax.specs.declared.core_expr.Form.{Form, Literal, Name, Const, Hole}
-use Rattle.vt_syntax.specs.CoreTrees.{core, fun_of, app_of, let_of, let_rec_of, choice_of, let_form, let_rec_form}
+use Rattle.vt_syntax.specs.CoreTrees.{core, fun_of, app_of, let_of, let_rec_of, choice_of, let_form}
 use Rattle.vt_syntax.specs.Checking.{numbers, numbers_of}
 use Rattle.vt_rules.proofs.InOrder.{AllNodes}
 use Rattle.vt_scheme.specs.declared.scheme.Scheme.{Scheme}
 use Rattle.std.proofs.lemmas.List.Elements.{All-nil, All-cons, All-push, All-append, All-weaker}
 use Rattle.vt_syntax.specs.Selection.{core_at}
 use Rattle.vt_type.specs.declared.plain.Plain.{Plain}
-use Rattle.vt_type.specs.Plain.{IsWellFormed}
 use Rattle.vt_type.specs.Constants.{Constant, IsTable}
-use Rattle.vt_scheme.specs.Schemes.{Allows, HasTypes, IsFrozen}
-use Rattle.vt_store.specs.Patterns.{FateMap, fate_at}
-use Rattle.vt_store.specs.Solutions.{Solves}
-use Rattle.vt_store.specs.Stores.{Cells, cell_count, ends_at}
+use Rattle.vt_scheme.specs.Schemes.{Allows, IsFrozen}
+use Rattle.vt_store.specs.Patterns.{fate_at}
+use Rattle.vt_store.specs.Stores.{Cells, cell_count}
 use Rattle.vt_store.specs.Writes.{IsOf}
-use Rattle.vt_infer.specs.Places.{Place, At, Bound, Looped, env_at, HaveCells, cells_of, Gives}
+use Rattle.vt_infer.specs.Places.{Place, Bound, Looped, env_at, HaveCells, Gives}
 use Rattle.vt_infer.specs.Numbered.{AreBefore, IsNumberedCore}
-use Rattle.vt_infer.specs.Steps.{Solutions, AreFormed, Adds, Equates, Steps, TypesOf, IsPoly}
-use Rattle.vt_infer.specs.Environments.{IsHeld, AreMeant, mono_cells}
-use Rattle.vt_infer.specs.Inferring.{solutions_at, GoesOn, IsNew, IsEquated, IsGeneralised, IsExpressed}
+use Rattle.vt_infer.specs.Steps.{Solutions, Adds, Steps, TypesOf, IsPoly}
+use Rattle.vt_infer.specs.Environments.{AreMeant, mono_cells}
+use Rattle.vt_infer.specs.Inferring.{solutions_at, GoesOn, IsGeneralised, IsExpressed}
 use Rattle.vt_infer.specs.declared.environment.Entry.{Entry}
-use Rattle.vt_infer.specs.declared.environment.Entry.TheVariants.{Mono, Poly}
 use Rattle.vt_infer.specs.declared.work.Work.{Work}
 use Rattle.vt_infer.specs.declared.holes.MetHole.{MetHole}
 use Rattle.vt_infer.specs.Meetings.{HoleLog, AreMetAt, IsMarked}
@@ -40,7 +36,7 @@ use Rattle.vt_infer.proofs.PartsExpressed.{both_added, added_cells, added_spaces
 use Rattle.vt_infer.proofs.FormSteps.{let_step, frozen_poly}
 use Rattle.vt_infer.proofs.NumberLemmas.{numbered-within, numbered-all}
 use Rattle.vt_infer.proofs.PlaceLemmas.{are_before-later}
-use Rattle.vt_infer.proofs.GoingOn.{goes_on-then, goes_on-new, of_same, meant-cells, meant-later, mono_cells-meant, formed_at, alive_before}
+use Rattle.vt_infer.proofs.GoingOn.{goes_on-then, of_same, meant-cells, meant-later, mono_cells-meant, formed_at, alive_before}
 
 -- `let`, from its parts.
 

@@ -11,7 +11,7 @@ use Rattle.vt_rules.specs.TypingAt.{TyAt, HoldsHole}
 use Rattle.vt_rules.specs.TypingAt as marked
 use Rattle.vt_rules.proofs.InversionAt.{at_hole, at_fun, at_function, at_argument, at_let_bound, at_let_body, at_rec_bound, at_rec_body}
 use Rattle.vt_infer.specs.Places.{Place, At, Bound, Looped, env_at, HaveCells, Gives}
-use Rattle.vt_infer.specs.Steps.{Solutions, Agree, Keeps, Adds, Equates, TypesOf}
+use Rattle.vt_infer.specs.Steps.{Solutions, Keeps, Adds, Equates, TypesOf}
 use Rattle.vt_infer.specs.Wanted.{AddsAt, TypesAtOf, GivesAt}
 use Rattle.vt_infer.proofs.PlaceLemmas.{env_at-agrees}
 use Rattle.vt_infer.proofs.Combining.{agree-then}

@@ -1,17 +1,14 @@
-use Rattle.std.proofs.Common.{◌≡◌, ◌≢◌, ◌⊎◌, inl, inr, false, ℕ, suc, ◌+◌, ◌*◌, ◌<◌, ◌≤◌, List, [], ◌∷◌, ◌++◌, length, map, Option, Some, None, slice_get, get_or, add-one, refl, sym, ap, subst, ◌∙◌, arith}
-use Rattle.std.specs.BTreeMap.{BTreeMap, get, Updates, IsEmpty, is_at}
-use Rattle.std.specs.List.{All, Contains}
-use Rattle.std.specs.Map.{lookup}
+use Rattle.std.proofs.Common.{◌≡◌, ◌≢◌, ◌⊎◌, inl, inr, false, ℕ, ◌+◌, ◌*◌, ◌<◌, ◌≤◌, List, [], ◌∷◌, ◌++◌, length, Some, None, slice_get, refl, sym, ap, subst, ◌∙◌, arith}
+use Rattle.std.specs.BTreeMap.{BTreeMap, is_at}
+use Rattle.std.specs.List.{Contains}
 use Rattle.std.specs.Option.{unwrap_or}
 use Rattle.std.specs.Ordering.{nat_cmp}
 use Rattle.std.proofs.lemmas.Bool.{cases_eq}
 use Rattle.std.proofs.lemmas.Bool.Decides.{nat_tests}
 use Rattle.std.proofs.lemmas.List.Elements.{Contains-push_cases, Contains-append_left, Contains-push}
-use Rattle.std.proofs.lemmas.Option.{slice_get_within}
 use Rattle.vt_dec.specs.declared.side.Side.{Side}
 use Rattle.vt_dec.specs.declared.side.Side.TheVariants.{Left, Right}
-use Rattle.vt_dec.specs.declared.side.Space.{Space}
-use Rattle.vt_dec.specs.Decisions.{Region, IsIn, Admits, Decides, Takes, IsNextDecided}
+use Rattle.vt_dec.specs.Decisions.{Region, IsIn, Admits, Takes, IsNextDecided}
 use Rattle.vt_dec.proofs.Admitting.{Agrees-all}
 use Rattle.vt_dec.proofs.Agreement.{Agrees-decided}
 use Rattle.vt_type.specs.declared.plain.Plain.{Plain}
@@ -21,8 +18,7 @@ use Rattle.vt_store.specs.Writes.{IsOf, AgreesBelow}
 use Rattle.vt_store.proofs.Writing.{side_at, le_or_lt}
 use Rattle.vt_infer.specs.declared.holes.MetHole.{MetHole}
 use Rattle.vt_infer.specs.Inferring.{solutions_at, IsNew}
-use Rattle.vt_infer.specs.Mixing.{GrowsTo, IsEither, IsMade, IsOfHole, ArePlaced, IsPlaced, cell_in}
-use Rattle.vt_infer.specs.Steps.{Keeps}
+use Rattle.vt_infer.specs.Mixing.{GrowsTo, IsMade, IsOfHole, ArePlaced, IsPlaced, cell_in}
 use Rattle.vt_infer.proofs.Combining.{keeps-itself, keeps-then, adds-keeps}
 
 -- Cells that are the one or the other of two, by the decision.
@@ -165,13 +161,6 @@ module _ (N : ℕ) where
   -- two numbers that differ
   differ : (x y : ℕ) → (x ≡ y → ⊥) → is_at (nat_cmp x) y ≡ false
   differ x y not = let other : x ≢ y = not in grind (arith, nat_tests)
-
-  -- before the first hole
-  pub placed-none : (store : Cells) (known : BTreeMap ℕ ℕ) (main : ℕ) → IsEmpty known → main < cell_count store → ArePlaced {N = N} store [] (cell_in known main)
-  placed-none store known main none within = record {
-    cells = λ mark. subst (λ cell. cell < cell_count store) (sym (ap (λ entries. unwrap_or (lookup (is_at (nat_cmp mark)) entries) main) none)) within;
-    holes = λ decision of hole is admits. absurd (omega (arith, is.1));
-  }
 
   -- one more hole
   module _ (old new : Cells) (met : List (MetHole N)) (hole : MetHole N) (before after : BTreeMap ℕ ℕ) (main : ℕ)

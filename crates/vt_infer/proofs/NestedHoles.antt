@@ -1,16 +1,13 @@
-use Rattle.std.proofs.Common.{◌≡◌, ◌⊎◌, inl, inr, ℕ, ◌<◌, Bool, true, false, List, [], ◌∷◌, ◌++◌, refl}
-use Rattle.std.specs.List.{All}
+use Rattle.std.proofs.Common.{◌⊎◌, inl, inr, ℕ, ◌<◌, Bool, true, false, List, [], ◌∷◌, ◌++◌}
 use Rattle.vt_lex.specs.declared.span.Span.{Span}
 use Rattle.vt_syntax.specs.declared.core_expr.Core.{Core}
-use Rattle.vt_syntax.specs.declared.core_expr.Form.{Form}
 use Rattle.vt_syntax.specs.declared.core_program.CoreDef.{CoreDef}
-use Rattle.vt_syntax.specs.Checking.{numbers, numbers_of}
 use Rattle.vt_syntax.specs.CoreTrees.{core, let_form, let_rec_form}
 use Rattle.vt_syntax.specs.Programs.{nested, binding}
 use Rattle.vt_type.specs.declared.plain.Plain.{Plain}
 use Rattle.vt_type.specs.Plain.{IsWellFormed}
 use Rattle.vt_type.specs.Constants.{Constant}
-use Rattle.vt_rules.specs.Env.{Env, Empty, ◌▸◌, Mono, Def, Rec}
+use Rattle.vt_rules.specs.Env.{Env, ◌▸◌, Mono, Def, Rec}
 use Rattle.vt_rules.specs.Typing.{Ty}
 use Rattle.vt_rules.specs.TypingAt.{TyAt, HoldsHole}
 use Rattle.vt_rules.specs.TypingAt as marked

@@ -1,41 +1,33 @@
-use Rattle.std.proofs.Common.{◌≡◌, ◌↔◌, ℕ, zero, suc, ◌<◌, ◌≤◌, Bool, true, false, List, [], ◌∷◌, ◌++◌, length, map, All, inl, inr, refl, sym, ap, subst, ◌∙◌, arith}
+use Rattle.std.proofs.Common.{◌≡◌, ◌↔◌, ℕ, suc, Bool, true, false, List, [], map, refl, ap, subst, arith}
 use Rattle.std.proofs.lemmas.List.{nil_from_length}
 use Rattle.vt_dec.specs.declared.side.Side.{Side}
-use Rattle.vt_dec.specs.declared.fate.Fate.{Fate}
-use Rattle.vt_dec.specs.declared.fate.Fate.TheVariants.{Alive, Dead}
 use Rattle.vt_syntax.specs.declared.core_expr.Core.{Core}
 use Rattle.vt_syntax.specs.declared.core_expr.Form.{Name}
 use Rattle.vt_syntax.specs.declared.core_program.CoreDef.{CoreDef}
-use Rattle.vt_syntax.specs.declared.core_program.CoreProgram.{CoreProgram}
 use Rattle.vt_syntax.specs.CoreTrees.{core}
 use Rattle.vt_syntax.specs.Programs.{nested, binding}
 use Rattle.vt_type.specs.declared.plain.Plain.{Plain}
 use Rattle.vt_type.specs.Plain.{IsInstance}
 use Rattle.vt_type.specs.Canonical.{IsCanonical}
-use Rattle.vt_type.specs.Constants.{Constant, IsTable}
+use Rattle.vt_type.specs.Constants.{Constant}
 use Rattle.vt_store.specs.Ends.{CellEnd}
-use Rattle.vt_store.specs.Patterns.{IsShown}
 use Rattle.vt_store.specs.Solutions.{Solves, ReadsAs}
 use Rattle.vt_store.specs.Stores.{Cells, cell_count, ends_at}
 use Rattle.vt_store.specs.Writes.{IsOf}
 use Rattle.vt_scheme.specs.declared.scheme.Scheme.{Scheme}
-use Rattle.vt_scheme.specs.Schemes.{Allows, HasTypes, IsFrozen}
-use Rattle.vt_rules.specs.Env.{Env, Empty, ◌▸◌, Mono, Def, Rec}
+use Rattle.vt_scheme.specs.Schemes.{Allows, IsFrozen}
+use Rattle.vt_rules.specs.Env.{Env, Empty, ◌▸◌, Rec}
 use Rattle.vt_rules.specs.Typing.{Ty}
 use Rattle.vt_rules.specs.Typing as ty
-use Rattle.vt_rules.specs.TypingUpTo.{TyUpTo}
-use Rattle.vt_rules.specs.Failing.{FirstFailing}
-use Rattle.vt_rules.specs.Meaning.{own_expression, prefix}
-use Rattle.vt_rules.specs.Principal.{IsTyped, Principal}
+use Rattle.vt_rules.specs.Meaning.{own_expression}
+use Rattle.vt_rules.specs.Principal.{Principal}
 use Rattle.vt_rules.proofs.Inversion.{of_let_rec, of_known}
-use Rattle.vt_rules.proofs.LeastFailing.{failing-untyped}
-use Rattle.vt_infer.specs.Inferred.{IsPartAt, chosen}
 use Rattle.vt_infer.specs.Numbered.{IsNumberedCore}
-use Rattle.vt_infer.specs.Places.{Place, Bound, Looped, env_at, Gives}
-use Rattle.vt_infer.specs.Steps.{Solutions, Adds, Fails}
-use Rattle.vt_infer.specs.Definitions.{placed, place_of, places_after, env_after, AreTyped, FailsIn, DefinitionSteps, AreChecked}
+use Rattle.vt_infer.specs.Places.{Gives}
+use Rattle.vt_infer.specs.Steps.{Solutions, Adds}
+use Rattle.vt_infer.specs.Definitions.{placed, env_after, AreTyped}
 use Rattle.vt_infer.proofs.NumberLemmas.{numbered-wider}
-use Rattle.vt_infer.proofs.DefinitionLemmas.{nested-append, env-places, typed-append, chain_typed, chain_types, chain_fails}
+use Rattle.vt_infer.proofs.DefinitionLemmas.{chain_typed, chain_types}
 
 -- What the parts of a program mean at one decision, and what is known after one more definition.
 

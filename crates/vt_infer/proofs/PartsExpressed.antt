@@ -1,28 +1,26 @@
-use Rattle.std.proofs.Common.{◌≡◌, ◌⊎◌, inl, inr, ℕ, ◌<◌, ◌≤◌, List, [], ◌∷◌, ◌++◌, length, append_assoc, refl, ap, sym, subst, ◌∙◌, arith}
+use Rattle.std.proofs.Common.{◌≡◌, ◌⊎◌, inl, inr, ℕ, ◌<◌, ◌≤◌, List, [], ◌∷◌, ◌++◌, append_assoc, refl, ap, sym, subst, ◌∙◌, arith}
 use Rattle.std.specs.List.{Contains}
 use Rattle.std.proofs.lemmas.List.Elements.{Contains-append_left, Contains-append_right, Contains-append_cases}
 use Rattle.vt_dec.specs.declared.side.Side.{Side}
 use Rattle.vt_dec.specs.declared.side.Space.{Space}
-use Rattle.vt_dec.specs.declared.fate.Fate.{Fate}
-use Rattle.vt_dec.specs.declared.fate.Fate.TheVariants.{Alive, Dead}
+use Rattle.vt_dec.specs.declared.fate.Fate.TheVariants.{Alive}
 use Rattle.vt_dec.specs.Decisions.{Region, Admits}
 use Rattle.vt_lex.specs.declared.span.Span.{Span}
 use Rattle.vt_syntax.specs.declared.core_expr.Core.{Core}
 use Rattle.vt_syntax.specs.CoreTrees.{core, fun_form, app_form}
 use Rattle.vt_syntax.specs.Selection.{core_at}
-use Rattle.vt_type.specs.declared.plain.Plain.{Plain, Var}
+use Rattle.vt_type.specs.declared.plain.Plain.{Var}
 use Rattle.vt_type.specs.Plain.{IsWellFormed}
 use Rattle.vt_type.specs.Constants.{Constant, IsTable, ◌⇒◌}
 use Rattle.vt_rules.specs.TypingAt.{HoldsHole}
-use Rattle.vt_store.specs.Patterns.{FateMap, fate_at}
-use Rattle.vt_store.specs.Stores.{Cells, cell_count}
+use Rattle.vt_store.specs.Patterns.{fate_at}
+use Rattle.vt_store.specs.Stores.{cell_count}
 use Rattle.vt_store.specs.Writes.{IsOf}
 use Rattle.vt_infer.specs.Places.{Place, At, HaveCells}
 use Rattle.vt_infer.specs.Numbered.{AreBefore, IsNumberedCore}
 use Rattle.vt_infer.specs.Steps.{Adds, Joins, Steps, TypesOf}
 use Rattle.vt_infer.specs.Environments.{AreMeant}
 use Rattle.vt_infer.specs.Inferring.{solutions_at, GoesOn, IsNew, IsJoint, IsExpressed}
-use Rattle.vt_infer.specs.declared.environment.Entry.{Entry}
 use Rattle.vt_infer.specs.declared.environment.Entry.TheVariants.{Mono}
 use Rattle.vt_infer.specs.declared.work.Work.{Work}
 use Rattle.vt_infer.specs.declared.holes.MetHole.{MetHole}

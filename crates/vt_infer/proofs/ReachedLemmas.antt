@@ -1,10 +1,9 @@
-use Rattle.std.proofs.Common.{◌≡◌, ◌↔◌, ◌⊎◌, ℕ, zero, suc, ◌<◌, ◌≤◌, Bool, true, false, List, [], ◌∷◌, ◌++◌, length, map, take, drop, slice_get, Option, Some, None, All, inl, inr, refl, sym, ap, subst, ◌∙◌, arith}
+use Rattle.std.proofs.Common.{◌≡◌, ◌↔◌, ◌⊎◌, ℕ, suc, ◌<◌, Bool, true, false, List, [], ◌∷◌, ◌++◌, length, take, drop, slice_get, Some, All, inl, inr, refl, sym, ap, subst, ◌∙◌, arith}
 use Rattle.std.proofs.lemmas.Option.{slice_get-map, slice_get_within}
 use Rattle.std.specs.Option.{option_map}
 use Rattle.vt_dec.specs.declared.side.Side.{Side}
 use Rattle.vt_dec.specs.declared.fate.Fate.{Fate}
 use Rattle.vt_dec.specs.declared.fate.Fate.TheVariants.{Alive, Dead}
-use Rattle.vt_syntax.specs.declared.core_expr.Core.{Core}
 use Rattle.vt_syntax.specs.declared.core_program.CoreDef.{CoreDef}
 use Rattle.vt_syntax.specs.declared.core_program.CoreProgram.{CoreProgram}
 use Rattle.vt_syntax.specs.Checking.{numbers_of}
@@ -16,18 +15,18 @@ use Rattle.vt_store.specs.Solutions.{Solves}
 use Rattle.vt_store.specs.Stores.{Cells, cell_count, ends_at}
 use Rattle.vt_store.specs.Writes.{IsOf}
 use Rattle.vt_scheme.specs.declared.scheme.Scheme.{Scheme}
-use Rattle.vt_scheme.specs.Schemes.{Allows, IsFrozen}
-use Rattle.vt_rules.specs.Env.{Env, Empty}
+use Rattle.vt_scheme.specs.Schemes.{IsFrozen}
+use Rattle.vt_rules.specs.Env.{Empty}
 use Rattle.vt_rules.specs.Meaning.{own_expression}
 use Rattle.vt_infer.specs.declared.environment.Entry.{Entry}
-use Rattle.vt_infer.specs.declared.environment.Entry.TheVariants.{Mono, Poly}
-use Rattle.vt_infer.specs.Definitions.{placed, place_of, places_after, env_after, AreTyped, DefinitionSteps, AreChecked}
+use Rattle.vt_infer.specs.declared.environment.Entry.TheVariants.{Poly}
+use Rattle.vt_infer.specs.Definitions.{placed, place_of, places_after, env_after, DefinitionSteps, AreChecked}
 use Rattle.vt_infer.specs.Inferred.{IsPartAt}
 use Rattle.vt_infer.specs.Inferring.{solutions_at}
 use Rattle.vt_infer.specs.Numbered.{IsNumberedCore, AreBefore}
 use Rattle.vt_infer.specs.Parts.{defs_at, def_at, GivesAll, AreKnown, IsReachedAt}
 use Rattle.vt_infer.specs.Places.{Place, env_at, Gives}
-use Rattle.vt_infer.specs.Steps.{Solutions, Adds}
+use Rattle.vt_infer.specs.Steps.{Solutions}
 use Rattle.vt_infer.proofs.CheckedLemmas.{next_checked, next_dead, own_dead, own_dies, own_alive, own_typed, part_alive, part_dead, part_later}
 use Rattle.vt_infer.proofs.DefinitionLemmas.{env-places, places-append}
 use Rattle.vt_infer.proofs.KnownLemmas.{take-at, drop-at, last_or_before, chosen_part, known_entry}

@@ -1,10 +1,8 @@
-use Rattle.std.proofs.Common.{◌≡◌, ℕ, zero, suc, ◌+◌, ◌*◌, ◌<◌, ◌≤◌, Bool, true, false, List, [], ◌∷◌, ◌++◌, length, map, take, drop, slice_get, Option, Some, None, All, refl, sym, ap, subst, ◌∙◌, length-append, length-take-le, add-one, arith}
+use Rattle.std.proofs.Common.{◌≡◌, ℕ, suc, ◌+◌, ◌*◌, Bool, true, false, List, [], ◌∷◌, ◌++◌, length, map, take, drop, slice_get, Some, All, refl, sym, ap, subst, ◌∙◌, length-append, length-take-le, add-one, arith}
 use Rattle.std.proofs.lemmas.List.{length-map, map-append}
 use Rattle.std.proofs.lemmas.List.Elements.{All-append, All-cons}
 use Rattle.std.proofs.lemmas.Option.{slice_get_within}
 use Rattle.vt_dec.specs.declared.side.Side.{Side}
-use Rattle.vt_dec.specs.declared.side.Space.{Space}
-use Rattle.vt_dec.specs.declared.fate.Fate.TheVariants.{Alive}
 use Rattle.vt_dec.specs.Decisions.{Region}
 use Rattle.vt_syntax.specs.declared.core_expr.Core.{Core}
 use Rattle.vt_syntax.specs.declared.core_program.CoreDef.{CoreDef}
@@ -12,17 +10,16 @@ use Rattle.vt_syntax.specs.declared.core_program.CoreProgram.{CoreProgram}
 use Rattle.vt_syntax.specs.Programs.{nested, binding}
 use Rattle.vt_syntax.specs.Scoping.{HasConstants, HasDims}
 use Rattle.vt_type.specs.Constants.{Constant, IsTable}
-use Rattle.vt_store.specs.Patterns.{FateMap, fate_at}
-use Rattle.vt_store.specs.Stores.{Cells, cell_count}
+use Rattle.vt_store.specs.Patterns.{fate_at}
+use Rattle.vt_store.specs.Stores.{cell_count}
 use Rattle.vt_store.specs.Writes.{IsOf}
 use Rattle.vt_scheme.specs.declared.scheme.Scheme.{Scheme}
 use Rattle.vt_scheme.specs.Schemes.{AreCells, IsFrozen}
-use Rattle.vt_infer.specs.declared.environment.Entry.{Entry}
-use Rattle.vt_infer.specs.declared.environment.Entry.TheVariants.{Mono, Poly}
+use Rattle.vt_infer.specs.declared.environment.Entry.TheVariants.{Poly}
 use Rattle.vt_infer.specs.declared.work.Work.{Work}
 use Rattle.vt_infer.specs.Environments.{IsHeld, mono_cells, schemes_of}
 use Rattle.vt_infer.specs.Inferring.{solutions_at}
-use Rattle.vt_infer.specs.Parts.{Covers, IsBodyScoped, IsDefinable, IsDefined, IsClosedForm, IsReachedAt, IsReached, IsAdded, defs_at}
+use Rattle.vt_infer.specs.Parts.{Covers, IsBodyScoped, IsDefinable, IsClosedForm, IsReachedAt, IsReached, IsAdded, defs_at}
 use Rattle.vt_infer.proofs.DefinitionLemmas.{places-cells}
 use Rattle.vt_infer.proofs.GoingOn.{held-later}
 use Rattle.vt_infer.proofs.KnownLemmas.{take-at, drop-at}

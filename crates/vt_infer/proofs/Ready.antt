@@ -1,15 +1,10 @@
-use Rattle.std.proofs.Common.{◌≡◌, ℕ, ◌+◌, ◌*◌, ◌<◌, ◌≤◌, List, [], ◌∷◌, length, refl, ap, sym, subst, ◌∙◌, arith}
-use Rattle.std.specs.List.{All}
-use Rattle.vt_dec.specs.declared.side.Side.{Side}
-use Rattle.vt_dec.specs.Decisions.{Region, Narrows}
+use Rattle.std.proofs.Common.{◌≡◌, ℕ, ◌*◌, List, ◌∷◌, length, refl, ap, sym, subst, ◌∙◌}
+use Rattle.vt_dec.specs.Decisions.{Region}
 use Rattle.vt_syntax.specs.declared.core_expr.Core.{Core}
 use Rattle.vt_syntax.specs.declared.core_expr.Form.{Form}
-use Rattle.vt_syntax.specs.CoreTrees.{fun_form, app_form, let_form, let_rec_form, choice_form}
 use Rattle.vt_syntax.specs.Scoping.{IsScoped, HasConstants, HasDims}
 use Rattle.vt_type.specs.Plain.{IsWellFormed}
-use Rattle.vt_type.specs.Constants.{Constant, IsTable}
-use Rattle.vt_scheme.specs.Schemes.{IsFrozen}
-use Rattle.vt_store.specs.Stores.{Cells, cell_count}
+use Rattle.vt_type.specs.Constants.{Constant}
 use Rattle.vt_infer.specs.Environments.{IsHeld, mono_cells}
 use Rattle.vt_infer.specs.Inferring.{GoesOn, IsReady, IsNew, IsEquated, IsGeneralised, IsExpressed}
 use Rattle.vt_infer.specs.declared.environment.Entry.{Entry}

@@ -1,22 +1,21 @@
-use Rattle.std.proofs.Common.{◌≡◌, ◌⊎◌, inl, inr, ℕ, zero, suc, ◌+◌, ◌*◌, ◌<◌, ◌≤◌, List, [], ◌∷◌, length, map, Option, Some, None, slice_get, refl, ap, sym, subst, ◌∙◌, arith}
+use Rattle.std.proofs.Common.{◌≡◌, ℕ, ◌*◌, ◌<◌, List, [], ◌∷◌, length, map, Option, Some, None, slice_get, refl, sym, subst, arith}
 use Rattle.std.specs.List.{All}
-use Rattle.std.proofs.lemmas.List.Elements.{All-head, All-tail, All-nil, All-cons}
+use Rattle.std.proofs.lemmas.List.Elements.{All-nil, All-cons}
 use Rattle.vt_dec.specs.declared.side.Side.{Side}
 use Rattle.vt_dec.specs.declared.side.Side.TheVariants.{Left, Right}
 use Rattle.vt_type.specs.declared.head.Head.{Head}
 use Rattle.vt_type.specs.declared.head.Head.TheVariants.{Fun}
 use Rattle.vt_type.specs.declared.plain.Plain.{Plain, Con}
 use Rattle.vt_type.specs.declared.plain.PlainKids.{Nil}
-use Rattle.vt_type.specs.Plain.{IsWellFormed, kid_count, arity, AreWellFormed}
+use Rattle.vt_type.specs.Plain.{IsWellFormed, arity}
 use Rattle.vt_type.specs.Constants.{◌⇒◌}
 use Rattle.vt_type.specs.Variational.{by_side}
-use Rattle.vt_store.specs.Ends.{CellEnd, Free, Same, Made, EachCell, IsAcyclic, AreArities}
-use Rattle.vt_store.specs.Solutions.{plain_kids, Fits, Solves}
+use Rattle.vt_store.specs.Ends.{CellEnd, Free, Same, Made, EachCell, IsAcyclic}
+use Rattle.vt_store.specs.Solutions.{plain_kids, Fits}
 use Rattle.vt_store.specs.Stores.{Cells, cell_count, ends_at, one_of}
 use Rattle.vt_store.specs.Stores as stores
 use Rattle.vt_store.specs.Writes.{IsOf}
 use Rattle.vt_store.proofs.Solutions.{IsWellFormed-made}
-use Rattle.vt_infer.specs.Steps.{Adds}
 use Rattle.vt_infer.specs.Inferring.{solutions_at, IsNew, NewTypes}
 use Rattle.vt_infer.proofs.Extending.{adds_one}
 

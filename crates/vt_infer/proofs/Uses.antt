@@ -1,10 +1,10 @@
-use Rattle.std.proofs.Common.{◌≡◌, ◌⊎◌, inl, inr, ◌↔◌, ℕ, zero, suc, ◌+◌, ◌<◌, ◌≤◌, List, [], ◌∷◌, Some, length, map, take, slice_get, refl, ap, sym, subst, ◌∙◌, arith}
+use Rattle.std.proofs.Common.{◌≡◌, ◌↔◌, ℕ, zero, suc, ◌+◌, ◌<◌, List, [], ◌∷◌, Some, map, take, slice_get, refl, ap, sym, subst, ◌∙◌, arith}
 use Rattle.std.specs.List.{All}
 use Rattle.std.proofs.lemmas.Option.{same_Some}
 use Rattle.vt_dec.specs.declared.side.Side.{Side}
 use Rattle.vt_dec.specs.declared.fate.Fate.{Fate}
 use Rattle.vt_dec.specs.declared.fate.Fate.TheVariants.{Alive, Dead}
-use Rattle.vt_dec.specs.Decisions.{Region, Admits}
+use Rattle.vt_dec.specs.Decisions.{Region}
 use Rattle.vt_type.specs.declared.plain.Plain.{Plain}
 use Rattle.vt_store.specs.Patterns.{FateMap, fate_at}
 use Rattle.vt_store.specs.Stores.{Cells, cell_count}
@@ -14,7 +14,7 @@ use Rattle.vt_scheme.specs.declared.scheme.Scheme.{Scheme}
 use Rattle.vt_scheme.specs.declared.scheme.Copied.{Copied}
 use Rattle.vt_unify.specs.Unified.{IsUnified, IsEither}
 use Rattle.vt_store.proofs.Solutions.{HaveSolutions}
-use Rattle.vt_infer.specs.Steps.{Solutions, Agree, Keeps, Joins}
+use Rattle.vt_infer.specs.Steps.{Keeps, Joins}
 use Rattle.vt_infer.specs.Inferring.{solutions_at, GoesOn, IsJoint}
 use Rattle.vt_infer.specs.Equating.{EquatesAll, AreEquated}
 use Rattle.vt_infer.proofs.Extending.{map-agrees}

@@ -1,11 +1,10 @@
-use Rattle.std.specs.Prelude.{◌≡◌, ◌↔◌, ◌⊎◌, ℕ, suc, ◌<◌, ◌≤◌, ◌*◌, Bool, true, false, List, [], ◌∷◌, ◌++◌, length, map, take, drop, slice_get, Some}
+use Rattle.std.specs.Prelude.{◌≡◌, ◌↔◌, ℕ, suc, ◌<◌, ◌≤◌, ◌*◌, Bool, true, false, List, [], ◌∷◌, ◌++◌, length, map, take, drop, slice_get, Some}
 use Rattle.std.specs.List.{All}
 use Rattle.vt_dec.specs.declared.side.Side.{Side}
 use Rattle.vt_dec.specs.declared.side.Space.{Space}
 use Rattle.vt_dec.specs.declared.fate.Fate.{Fate}
 use Rattle.vt_dec.specs.declared.fate.Fate.TheVariants.{Alive}
 use Rattle.vt_dec.specs.Decisions.{Region, Admits}
-use Rattle.vt_syntax.specs.declared.core_expr.Core.{Core}
 use Rattle.vt_syntax.specs.declared.core_expr.Form.{Form}
 use Rattle.vt_syntax.specs.declared.core_program.CoreDef.{CoreDef}
 use Rattle.vt_syntax.specs.declared.core_program.CoreProgram.{CoreProgram}

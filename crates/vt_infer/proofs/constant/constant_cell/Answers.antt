@@ -1,4 +1,4 @@
-use Rattle.std.proofs.Common.{◌≡◌, ℕ, List, [], ◌<◌, sym, subst}
+use Rattle.std.proofs.Common.{ℕ, ◌<◌, subst}
 use Rattle.std.proofs.lemmas.Result.{IfOk-weaker}
 use Rattle.vt_type.specs.Plain.{substituted}
 use Rattle.vt_store.specs.Stores.{cell_count}

@@ -1,6 +1,4 @@
-use Rattle.std.proofs.Common.{◌≡◌, Some, None, sym, ◌∙◌}
-use Rattle.std.specs.Map.{lookup}
-use Rattle.std.specs.Str.{bytes_eq}
+use Rattle.std.proofs.Common.{sym, ◌∙◌}
 use Rattle.vt_infer.proofs.Built.{IsBuilt-met, IsBuilt-first}
 use Rattle.vt_infer.proofs.constant.variable.Goals as goal
 

@@ -1,4 +1,4 @@
-use Rattle.std.proofs.Common.{◌∷◌, ◌∙◌, rules, subst, sym}
+use Rattle.std.proofs.Common.{◌∙◌, rules, subst, sym}
 use Rattle.vt_infer.specs.declared.environment.Entry.TheVariants.{Mono}
 use Rattle.vt_infer.specs.Inferring.{IsReady}
 use Rattle.vt_infer.specs.Meetings.{IsLookedAt}

@@ -1,13 +1,13 @@
-use Rattle.std.proofs.Common.{◌≡◌, ℕ, List, [], ◌∷◌, rules, refl, sym, subst, ◌∙◌, ap, lit<, arith}
+use Rattle.std.proofs.Common.{[], ◌∷◌, rules, refl, sym, subst, ◌∙◌, ap, arith}
 use Rattle.std.proofs.lemmas.Result.{IfOk-weaker}
 use Rattle.vt_syntax.specs.CoreTrees.{nodes_below, core, fun_form, app_form, let_form, let_rec_form, choice_form}
 use Rattle.vt_syntax.specs.declared.core_expr.Form.{Literal, Name, Const, Hole}
 use Rattle.vt_syntax.proofs.CoreSeen.{fun_seen, app_seen, let_seen, let_rec_seen, choice_seen}
 use Rattle.vt_infer.specs.declared.environment.Entry.TheVariants.{Mono, Poly}
 use Rattle.vt_infer.specs.Environments.{mono_cells}
-use Rattle.vt_infer.specs.Inferring.{IsReady, IsExpressed}
+use Rattle.vt_infer.specs.Inferring.{IsReady}
 use Rattle.vt_infer.specs.declared.work.Work.{Work}
-use Rattle.vt_infer.proofs.LeavesExpressed.{expressed-as, expressed-literal, expressed-hole, expressed-constant, expressed-name, marked-as, marked-none, marked-hole}
+use Rattle.vt_infer.proofs.LeavesExpressed.{expressed-as, expressed-literal, expressed-constant, expressed-name, marked-as, marked-none}
 use Rattle.vt_infer.proofs.PartsExpressed.{expressed-function, expressed-application, marked-function, marked-application}
 use Rattle.vt_infer.proofs.LetsExpressed.{expressed-let, marked-let}
 use Rattle.vt_infer.proofs.LetRecsExpressed.{expressed-let_rec, marked-let_rec}

@@ -1,6 +1,5 @@
-use Rattle.std.proofs.Common.{◌≡◌, Some, slice_get, [], rules, lit<, ◌∙◌, sym, subst}
+use Rattle.std.proofs.Common.{◌≡◌, Some, slice_get, [], lit<, ◌∙◌, sym, subst}
 use Rattle.std.specs.List.{Contains}
-use Rattle.std.proofs.lemmas.Result.{IfOk-weaker}
 use Rattle.vt_infer.specs.Mixing.{HaveLeafCells}
 use Rattle.vt_infer.specs.Parts.{typed_of}
 use Rattle.vt_infer.proofs.FoundLemmas.{gathered_begin}

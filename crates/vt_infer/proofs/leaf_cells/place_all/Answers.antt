@@ -1,4 +1,4 @@
-use Rattle.std.proofs.Common.{rules, ◌≡◌, ◌∙◌, ap, sym, subst, add-one, take, refl, arith}
+use Rattle.std.proofs.Common.{rules, ◌∙◌, ap, sym, subst, add-one, take, refl, arith}
 use Rattle.std.specs.List.{Contains}
 use Rattle.vt_infer.specs.Mixing.{ArePlaced, cell_in}
 use Rattle.vt_infer.proofs.InferredLemmas.{item_at}

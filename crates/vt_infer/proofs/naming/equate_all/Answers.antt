@@ -1,4 +1,4 @@
-use Rattle.std.proofs.Common.{◌≡◌, ◌<◌, length, sym, subst, ◌∙◌, refl, arith, rules, slice_get, Some}
+use Rattle.std.proofs.Common.{◌≡◌, length, refl, arith, slice_get, Some}
 use Rattle.std.proofs.lemmas.Option.{slice_get_read}
 use Rattle.vt_infer.proofs.Uses.{equated-none, equated-next}
 use Rattle.vt_infer.proofs.naming.equate_all.Goals as goal

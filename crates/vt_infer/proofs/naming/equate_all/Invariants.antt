@@ -1,4 +1,4 @@
-use Rattle.std.proofs.Common.{◌≡◌, take}
+use Rattle.std.proofs.Common.{take}
 use Rattle.vt_infer.specs.Equating.{AreEquated}
 use Rattle.vt_infer.proofs.naming.equate_all.Given as goal
 

@@ -1,10 +1,9 @@
-use Rattle.std.proofs.Common.{◌≡◌, ◌<◌, length, map, Some, slice_get, sym, subst, ap, ◌∙◌, rules}
+use Rattle.std.proofs.Common.{◌<◌, length, map, Some, sym, subst, ap, ◌∙◌, rules}
 use Rattle.std.specs.List.{All}
 use Rattle.std.proofs.lemmas.Result.{IfOk-weaker}
 use Rattle.vt_scheme.specs.Schemes.{Allows}
 use Rattle.vt_store.specs.Stores.{cell_count}
 use Rattle.vt_infer.specs.Inferring.{IsJoint}
-use Rattle.vt_infer.specs.Environments.{IsHeldEntry}
 use Rattle.vt_infer.specs.declared.environment.Entry.TheVariants.{Poly}
 use Rattle.vt_infer.proofs.GoingOn.{held-at}
 use Rattle.vt_infer.proofs.naming.named.Goals as goal

@@ -1,4 +1,4 @@
-use Rattle.std.proofs.Common.{◌≡◌, None, sym, ◌∙◌}
+use Rattle.std.proofs.Common.{sym, ◌∙◌}
 use Rattle.vt_infer.proofs.Entries.{lookup-entry_of, entries-new}
 use Rattle.vt_infer.proofs.variables.Variables.add.Goals as goal
 

@@ -1,4 +1,4 @@
-use Rattle.std.proofs.Common.{◌≡◌, sym, ◌∙◌}
+use Rattle.std.proofs.Common.{sym, ◌∙◌}
 use Rattle.vt_infer.proofs.Entries.{lookup-entry_of}
 use Rattle.vt_infer.proofs.variables.Variables.cell.Goals as goal
 
